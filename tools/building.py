@@ -8,7 +8,7 @@ import sys
 from crates import TOP, below, kit, libraries, read
 
 CRATE = "rlsdb"
-PLACE = f"crates/{CRATE}/src/command_line.rt"
+PLACE = "crates/rls_command_line/src/command_line.rt"
 VERSION = re.compile(r'const VERSION: &str = "([^"\n]*)";')
 PROVED = re.compile(r"rt: \w+( is kept:.*| proved| NOT PROVED.*)$")
 # As the toolchain compiles a proved program.

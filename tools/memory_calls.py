@@ -11,23 +11,25 @@ from crates import TOP, libraries, read, root_of
 # The crates whose calls are promised, from the lowest up.
 CRATES = """shared_map rls_value rls_expr rls_text rls_hints rls_printing rls_catalog rls_source rls_overlay rls_agreement rls_role rls_grant
     rls_verdict rls_policy rls_access rls_explain rls_lint rls_rows rls_siread rls_conflict rls_core rls_engine rls_script rls_transcript rls_session
-    rls_audit rls_check""".split()
+    rls_audit rls_check rls_command_line""".split()
 # The crates whose calls are parts of one of these: what they ask for is asked for there.
 INNER = {
     "shared": "parse", "rls_statement": "grant", "rls_codec": "read_line", "rls_recursion": "run_statement",
     "rls_evaluation": "run_statement", "rls_guard": "run_statement", "rls_ddl": "run_statement", "rls_expansion": "run_statement",
     "rls_judging": "run_statement", "rls_dml": "run_statement",
 }
+# The crate that only the programs of scenarios use: what it gives was refused below it.
+OWN = {"scenario"}
 # Errors that want of memory can be.
-ERRORS = "AllocError Refusal RunFault Unshown Unread CommitFault PostFault Records".split()
+ERRORS = "AllocError Refusal RunFault Unshown Unread CommitFault PostFault Records Mistake".split()
 EXPORTS = re.compile(r"^pub use (\w+(?:::\w+)*)::(\{[^}]*\}|\w+);", re.M)
 OWNER = re.compile(r"^(?:impl(?:<.*?>)? (\w+)(?:<.*>)?(?: for (\w+))?|pub trait (\w+))")
 FUNCTION = re.compile(r"^( *)(pub )?fn (\w+)")
 
 # Calls whose errors could say so, and which take no memory: what they give is shared, or made of what they are given.
 FREE = set("""Name::copy Value::copy Row::copy Object::copy Why::copy GrantFault::copy Cause::copy Refusal::copy Grant::copy Verdict::copy combine
-    Catalog::copy State::copy Record::copy""".split())
-NEVER = set("""Grants::copy SharedList::copy SharedMap::copy Text::copy Core::rollback Engine::close Reader::finish Converter::finish""".split())
+    Catalog::copy State::copy Record::copy Audited::copy_of Reader::finish Converter::finish""".split())
+NEVER = set("""Grants::copy SharedList::copy SharedMap::copy Text::copy Core::rollback Engine::close""".split())
 
 # Calls that have scenarios, and the public functions that are parts of them: what these ask for is asked for there.
 PARTS = {
@@ -63,16 +65,17 @@ PARTS = {
     "Session::execute": "Session::execute_at ask_of request_for",
 }
 
-# Calls that only runs of the program make, and their parts: they read a script and write answers, write and read the lines of audits,
-# or a command makes each.
+# Calls that only runs of the program make, and their parts: they read a script or the command line, write answers, write and read the
+# lines of audits, or a command makes each.
 WHOLE = {
     "run_script": "read_script run_script_telling write_answer",
     "run_threads": "Notes::join Plan::into_parts read_plan run_threads_telling",
+    "request_of": "",
     "write_report": "Told::lines Told::of filled lines_told marked script_of split_lines tolds_of",
-    "line_of_record": "Audited::copy_of Decisions::copy_all in_order printed", "write_line": "", "read_line": "",
-    "findings": "Finding::line Named::follow Named::opening",
-    "Reader::line": "", "Audit::check": "", "Audit::explain": "explain_row", "Why::lines": "", "Converter::line": "",
-    "Audit::walk": "", "Walk::next": "", "Turn::shown": "outcomes",
+    "line_of_record": "Decisions::copy_all in_order printed", "write_line": "push_escaped_line row_id_json row_values_json",
+    "read_line": "", "findings": "Finding::line Named::follow Named::opening",
+    "Reader::line": "", "Audit::check": "Committing::ends_in Committing::new Committing::put", "Audit::explain": "explain_row",
+    "Why::lines": "", "Converter::line": "", "Audit::walk": "", "Walk::next": "", "Turn::shown": "outcomes",
 }
 
 
@@ -111,8 +114,8 @@ def can_want_memory(given):
 
 
 def unlisted():
-    """The libraries that neither list has, and which have public functions that can answer want of memory."""
-    others = [crate for crate in libraries() if crate not in {*CRATES, *INNER} and root_of(crate) == "src/lib.rt"]
+    """The libraries that no list has, and which have public functions that can answer want of memory."""
+    others = [crate for crate in libraries() if crate not in {*CRATES, *INNER, *OWN} and root_of(crate) == "src/lib.rt"]
     return [crate for crate in others if any(public_calls([crate]))]
 
 

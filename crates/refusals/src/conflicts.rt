@@ -1,12 +1,12 @@
 //! Calls of what conflicts between transactions.
 
 use crate::opening::{INFORMATION, outcome_of, state_after};
-use crate::scenario::{Scenario, after, play};
 use rls_session::rls_access::{Effect, Outcome};
 use rls_session::rls_core::rls_conflict::Conflicts;
 use rls_session::rls_core::rls_guard::rls_catalog::rls_value::{Cause, Refusal};
 use rls_session::rls_core::rls_guard::rls_catalog::{Catalog, Delta};
 use rls_session::rls_equality::are_both_same;
+use scenario::{Scenario, after, play};
 use std::alloc::Global;
 
 /// The keys of one table that a transaction notes before its rows stand for them.

@@ -1,12 +1,12 @@
 //! Copies of values, definitions and changes. That a copy is equal is proved; here it is made.
 
 use crate::opening::{GRANTS, INFORMATION, changes_of, state_after};
-use crate::scenario::{Scenario, both, play, taken};
 use rls_session::rls_core::rls_guard::rls_catalog::rls_expr::{Expr, Policy, TableDef};
 use rls_session::rls_core::rls_guard::rls_catalog::rls_value::{
     Cause, GrantFault, Name, Object, Privilege, Refusal, Row, Text, Value, Why,
 };
 use rls_session::rls_core::rls_guard::rls_catalog::{Catalog, Change, Delta, Grant, Verdict};
+use scenario::{Scenario, both, play, taken};
 use std::alloc::{AllocError, Global};
 
 /// What is copied.

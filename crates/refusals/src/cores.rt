@@ -1,16 +1,16 @@
 //! Calls of a core.
 
 use crate::opening::{INFORMATION, begin_as, connect, core_after, shared};
-use crate::scenario::{
-    Ending, Scenario, after, begin, both, end, holds, made, made_again, play, taken, tell,
-    wants_memory,
-};
 use rls_session::rls_access::Effect;
 use rls_session::rls_core::rls_guard::rls_catalog::rls_value::Refusal;
 use rls_session::rls_core::rls_guard::rls_catalog::rls_value::shared::Share;
 use rls_session::rls_core::rls_guard::rls_role::rls_statement::Statement;
 use rls_session::rls_core::{Begin, Core, Decisions, Event, Posted, Record, run};
 use rls_session::rls_equality::{Same, are_both_same};
+use scenario::{
+    Ending, Scenario, after, begin, both, end, holds, made, made_again, play, taken, tell,
+    wants_memory,
+};
 use std::alloc::Global;
 
 /// The number of the transaction of mallory, who noted on a row, and of alice, who is about to take her group away.

@@ -4,7 +4,6 @@ ghost use Rattle.std.specs.Prelude.{◌≡◌, IfErr};
 ghost use Rattle.rls_session.specs.rls_engine.specs.Led.{AsksNothing};
 
 use crate::opening::{begin_as, shared};
-use crate::scenario::{Ending, Scenario, begin, end, made, made_again, play, tell, wants_memory};
 use rls_session::rls_access::Reply;
 use rls_session::rls_core::rls_guard::rls_catalog::rls_value::Refusal;
 use rls_session::rls_core::rls_guard::rls_catalog::rls_value::shared::Share;
@@ -12,6 +11,7 @@ use rls_session::rls_core::rls_guard::rls_role::rls_statement::Statement;
 use rls_session::rls_engine::{
     Book, CommitFault, Engine, Named, PostFault, Receipt, Records, Seen, Told, Txn,
 };
+use scenario::{Ending, Scenario, begin, end, made, made_again, play, tell, wants_memory};
 use std::alloc::Global;
 use std::marker::Brand;
 use std::sync::Wait;

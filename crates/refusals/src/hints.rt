@@ -1,8 +1,8 @@
 //! Calls that tell of a line which isn't taken.
 
-use crate::scenario::{Scenario, play};
 use rls_hints::{COMMAND, Fault, Place, Placed, find_fault, hint_of, label_hint, read_words};
 use rls_session::rls_core::rls_guard::rls_catalog::rls_value::Refusal;
+use scenario::{Scenario, play};
 use std::alloc::Global;
 
 /// A line whose fourth word is none that may stand there, and its command.

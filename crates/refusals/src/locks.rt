@@ -1,13 +1,13 @@
 //! Calls of read locks.
 
 use crate::opening::{GRANTS, are_same_objects, changes_of, state_after};
-use crate::scenario::{Scenario, after, both, play, taken};
 use rls_session::rls_core::rls_conflict::rls_siread::{
     LockTable, Sireads, covered, promote, written,
 };
 use rls_session::rls_core::rls_guard::rls_catalog::Delta;
 use rls_session::rls_core::rls_guard::rls_catalog::rls_value::{Name, Object, Refusal, Row, Value};
 use rls_session::rls_core::rls_guard::rls_source::Footprint;
+use scenario::{Scenario, after, both, play, taken};
 use std::alloc::Global;
 
 /// The keys of one table that a transaction notes before its rows stand for them.

@@ -11,7 +11,6 @@ mod locks;
 mod maps;
 mod opening;
 mod privileges;
-mod scenario;
 mod sessions;
 mod sources;
 mod statements;

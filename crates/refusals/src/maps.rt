@@ -1,8 +1,8 @@
 //! Changes of maps and lists that share their nodes with copies, or don't.
 
-use crate::scenario::{Scenario, play};
 use rls_session::rls_core::rls_guard::rls_catalog::rls_value::Refusal;
 use rls_session::rls_core::rls_guard::rls_catalog::shared_map::SharedMap;
+use scenario::{Scenario, play};
 use std::alloc::{AllocError, Global};
 
 type Map = SharedMap<u64, u64>;

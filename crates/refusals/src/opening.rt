@@ -1,6 +1,5 @@
 //! States, cores and statements that scenarios begin on.
 
-use crate::scenario::{after, both, taken};
 use rls_agreement::agrees_on;
 use rls_session::rls_access::{Ctx, Effect, Mode, Outcome, run_statement};
 use rls_session::rls_core::rls_guard::rls_catalog::rls_value::shared::Share;
@@ -10,6 +9,7 @@ use rls_session::rls_core::rls_guard::rls_role::rls_statement::Statement;
 use rls_session::rls_core::rls_guard::rls_source::{Footprint, Plain};
 use rls_session::rls_core::{Begin, Core};
 use rls_session::rls_text::parse;
+use scenario::{after, both, taken};
 use std::alloc::Global;
 
 /// The manual's tables of users and of information that only groups may see (PostgreSQL manual, 5.8, "Row Security Policies").

@@ -1,7 +1,6 @@
 //! Calls that tell whose privileges a role has, which policies apply to it, and what GRANT and REVOKE change.
 
 use crate::opening::{CREWS, GRANTS, INFORMATION, state_after};
-use crate::scenario::{Scenario, after, both, play};
 use rls_session::rls_core::rls_guard::rls_catalog::rls_value::{
     Items, Kind, Name, Privilege, Reference, Refusal, Truth,
 };
@@ -12,6 +11,7 @@ use rls_session::rls_core::rls_guard::rls_role::rls_statement::Statement;
 use rls_session::rls_core::rls_guard::rls_role::{can_set, grant_member, has, revoke_member};
 use rls_session::rls_core::rls_guard::rls_source::{Plain, Reads};
 use rls_session::rls_text::parse;
+use scenario::{Scenario, after, both, play};
 use std::alloc::Global;
 
 /// What is asked of a role of a state.

@@ -3,11 +3,11 @@
 ghost use Rattle.std.specs.Prelude.{◌≡◌};
 ghost use Rattle.rls_session.specs.rls_script.specs.Spelled.{AsksTexts};
 
-use crate::scenario::{Ending, Scenario, begin, end, made, made_again, play, tell, wants_memory};
 use rls_session::rls_core::rls_guard::rls_catalog::rls_value::{Name, Refusal};
 use rls_session::rls_engine::{Engine, Named, Records, Seen};
 use rls_session::rls_script::{Answer, render};
 use rls_session::{At, Label, NoGate, Notes, Session};
+use scenario::{Ending, Scenario, begin, end, made, made_again, play, tell, wants_memory};
 use std::alloc::Global;
 use std::marker::Brand;
 use std::sync::Wait;

@@ -1,7 +1,6 @@
 //! Calls of sources, which note what is read, and of footprints.
 
 use crate::opening::{GRANTS, apply, are_same_objects, everything, has_all, state_after};
-use crate::scenario::{Scenario, after, both, play, taken};
 use rls_agreement::agrees_on;
 use rls_overlay::Overlay;
 use rls_session::rls_core::rls_guard::rls_catalog::rls_value::{
@@ -11,6 +10,7 @@ use rls_session::rls_core::rls_guard::rls_catalog::{Catalog, Change, RoleDef};
 use rls_session::rls_core::rls_guard::rls_source::{
     Footprint, Plain, Recording, RowSource, StatementSource,
 };
+use scenario::{Scenario, after, both, play, taken};
 use std::alloc::Global;
 
 /// A role, a table, a key of it, and what is read of them.

@@ -1,7 +1,6 @@
 //! Texts that are read as statements, statements that are printed, and what they come to.
 
 use crate::opening::{GRANTS, apply, context, state_after};
-use crate::scenario::{Scenario, after, both, is_text, play};
 use rls_printing::{print, print_command};
 use rls_session::rls_access::{Ctx, Effect, Outcome, run_statement};
 use rls_session::rls_core::rls_guard::rls_catalog::Catalog;
@@ -9,6 +8,7 @@ use rls_session::rls_core::rls_guard::rls_catalog::rls_value::Refusal;
 use rls_session::rls_core::rls_guard::rls_role::rls_statement::{Command, Statement};
 use rls_session::rls_core::rls_guard::rls_source::Plain;
 use rls_session::rls_text::{parse, parse_command};
+use scenario::{Scenario, after, both, is_text, play};
 use std::alloc::Global;
 
 /// One statement of each kind, as it is printed.

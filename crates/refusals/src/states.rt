@@ -1,11 +1,11 @@
 //! Calls of states, which are changed, copied and kept under numbers.
 
 use crate::opening::{GRANTS, are_same_states, changes_of, everything, state_after};
-use crate::scenario::{Scenario, after, both, play, taken};
 use rls_agreement::agrees_on;
 use rls_session::rls_core::rls_guard::rls_catalog::rls_value::{Name, Refusal, Row, Value};
 use rls_session::rls_core::rls_guard::rls_catalog::{Catalog, Delta};
 use rls_session::rls_core::rls_rows::{State, Versions};
+use scenario::{Scenario, after, both, play, taken};
 use std::alloc::{AllocError, Global};
 
 /// The names of the states' roles and tables.

@@ -1,7 +1,6 @@
 //! Values that are made, and expressions that are resolved.
 
 use crate::opening::{GRANTS, state_after};
-use crate::scenario::{Scenario, both, play, taken};
 use rls_session::rls_core::rls_guard::rls_catalog::Catalog;
 use rls_session::rls_core::rls_guard::rls_catalog::rls_expr::{
     Expr, NamedTable, Scope, TableDef, columns_of, resolve_columns,
@@ -9,6 +8,7 @@ use rls_session::rls_core::rls_guard::rls_catalog::rls_expr::{
 use rls_session::rls_core::rls_guard::rls_catalog::rls_value::{Name, Refusal, Row, Text, Value};
 use rls_session::rls_core::rls_guard::rls_role::rls_statement::Statement;
 use rls_session::rls_text::parse;
+use scenario::{Scenario, both, play, taken};
 use std::alloc::{AllocError, Global};
 
 /// What is made.

@@ -1,2 +1,3 @@
 pub mod LookedUp
+pub mod Committing
 pub use Rattle.rls_catalog.specs.State

@@ -28,7 +28,8 @@ use Rattle.rls_audit.specs.declared.contents.TableShape.{TableShape}
 use Rattle.rls_audit.specs.declared.changes.Changed.{Changed}
 use Rattle.rls_audit.specs.declared.changes.Changed.TheVariants as changed
 use Rattle.rls_audit.specs.declared.lines.Answered.{Answered}
-use Rattle.rls_audit.specs.Lines.{written_by, answered, reply_of, ordered_changes, shown, grant_shape}
+use Rattle.rls_audit.specs.Lines.{written_by, answered, ordered_changes, shown, grant_shape}
+use Rattle.rls_core.specs.rls_guard.specs.Effects.{reply_of}
 use Rattle.rls_audit.specs.Lines as lines
 use Rattle.rls_audit.specs.Showing.{IsSpellable, IsPolicySpellable, ArePoliciesSpellable, AreTexts, CanTell, CanShow, Fails, Gives}
 use Rattle.rls_audit.specs.declared.showing.Unshown.{Unshown}

@@ -17,6 +17,7 @@ pub mod Ordered
 pub mod Audits
 pub mod Shows
 pub mod Showing
+pub mod FirstKeys
 pub mod Printed
 pub mod ShownParts
 pub use Rattle.rls_core

@@ -9,7 +9,7 @@ use Rattle.rls_core.specs.rls_guard.specs.rls_catalog.specs.{declared.role.RoleD
 use Rattle.rls_core.specs.rls_guard.specs.rls_catalog.specs.declared.change.Change.TheVariants as c
 use Rattle.rls_core.specs.rls_guard.specs.rls_source.specs.Sequences.{put_before}
 use Rattle.rls_statement.specs.declared.statement.Statement.{Statement}
-use Rattle.rls_core.specs.rls_guard.specs.{declared.reply.Reply.Reply, declared.reply.Decision.Decision, declared.effect.Effect.Effect, Effects.changes_of}
+use Rattle.rls_core.specs.rls_guard.specs.{declared.reply.Reply.Reply, declared.reply.Decision.Decision, declared.effect.Effect.Effect, Effects.changes_of, Effects.decisions_of, Effects.reply_of}
 use Rattle.rls_core.specs.rls_guard.specs.declared.effect.Effect.TheVariants as effect
 use Rattle.rls_core.specs.rls_access.specs.Transactions.{Begin}
 use Rattle.rls_core.specs.Records.{Record}
@@ -77,16 +77,6 @@ pub record Answered : Type 0 where
   pub statement : Statement
   pub reply : Result Reply Refusal
   pub decisions : List Decision
-
--- the reply, or the refusal
-abbrev pub reply_of : Effect → Result Reply Refusal
-reply_of (effect.Done reply decisions changes role) = Ok reply
-reply_of (effect.Refused refusal decisions) = Err refusal
-
--- what row security said of each row
-abbrev pub decisions_of : Effect → List Decision
-decisions_of (effect.Done reply decisions changes role) = decisions
-decisions_of (effect.Refused refusal decisions) = decisions
 
 -- what is shown of a statement with this effect
 abbrev pub answered_with : Statement → Effect → Answered

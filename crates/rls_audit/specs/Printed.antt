@@ -17,7 +17,8 @@ use Rattle.rls_audit.specs.declared.lines.Answered.{Answered}
 use Rattle.rls_audit.specs.declared.lines.Line.{Line}
 use Rattle.rls_audit.specs.declared.lines.Line.TheVariants.{Head, Txn, End}
 use Rattle.rls_audit.specs.Reading.{line_text}
-use Rattle.rls_audit.specs.Lines.{grant_shape, reply_of, decisions_of, ordered_changes}
+use Rattle.rls_audit.specs.Lines.{grant_shape, ordered_changes}
+use Rattle.rls_core.specs.rls_guard.specs.Effects.{reply_of, decisions_of}
 
 -- ---- statements and policies
 

@@ -30,3 +30,4 @@ pub use rls_core::{rls_access, rls_rows};
 pub use rls_printing;
 pub use rls_text;
 pub use showing::{Unshown, line_of_record, printed};
+pub use values::{row_id_json, row_values_json};

@@ -3,6 +3,7 @@
 ghost use Rattle.std.specs.Prelude.{◌≡◌, ◌<◌, length, map, option_map, string_bytes, IfOk};
 ghost use Rattle.std.specs.List.{All, AllZip, flat_map};
 ghost use Rattle.rls_core.specs.Posts.{effect_of};
+ghost use Rattle.rls_core.specs.rls_guard.specs.Effects.{reply_of};
 ghost use Rattle.rls_audit.specs.Lines as spec;
 ghost use Rattle.rls_audit.specs.Lines.{grant_shape, in_object_order, ordered_changes};
 ghost use Rattle.rls_audit.specs.Printed.{line_of, printed_line, printed_text};
@@ -142,7 +143,7 @@ fn answer_with(
     posted: &Posted,
     reply: Result<Reply, Audited>,
 ) -> Result<Answered, AllocError>
-    ensures { IfOk result (λ answered. reply ≡ spec.reply_of posted.now.effect → ShowsPost answered posted.now) }
+    ensures { IfOk result (λ answered. reply ≡ reply_of posted.now.effect → ShowsPost answered posted.now) }
 {
     let decisions = posted.decisions().copy_all(alloc)?;
     let text = statement_text(alloc, posted.statement())?;
@@ -154,7 +155,7 @@ fn answer_with(
 }
 
 fn reply_to(alloc: Global, effect: &Effect) -> Result<Result<Reply, Audited>, Unshown>
-    ensures { Gives result (CanShow effect.now) (λ reply. reply ≡ spec.reply_of effect.now) }
+    ensures { Gives result (CanShow effect.now) (λ reply. reply ≡ reply_of effect.now) }
 {
     match effect {
         Effect::Done(reply, _, _, _) => Ok(Ok(reply.copy()?)),

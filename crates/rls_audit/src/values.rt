@@ -2,15 +2,16 @@
 
 ghost use Rattle.std.specs.Prelude.{◌≡◌, IfOk, false};
 ghost use Rattle.std.specs.{List.list_all, Char.is_ascii_digit};
+ghost use Rattle.serde_json.specs.View.{view};
 ghost use Rattle.rls_audit.specs.Texts as spec;
 ghost use Rattle.rls_audit.specs.Texts.{number_found, row_id_found};
 ghost use Rattle.rls_audit.specs.ValueCodecs as codec;
 ghost use Rattle.rls_codec.specs.Codecs.{list_of, text as text_codec};
 ghost use Rattle.rls_codec.specs.Reading.{Reads};
 
-use crate::format::{Audit, Format};
+use crate::format::{Audit, Format, Second};
 use crate::texts::{at_dot, read_number};
-use rls_codec::{Coded, NeverNull, Unread, list_from_json, list_to_json, read_text};
+use rls_codec::{Coded, NeverNull, Unread, json_of, list_from_json, list_to_json, read_text};
 use rls_value::{Items, Row, RowId, Text, Value as Datum};
 use serde_json::Value;
 use std::alloc::{AllocError, Global};
@@ -94,6 +95,20 @@ impl<F: Format> Coded<Audit<F>> for RowId {
     fn from_json(_alloc: Global, json: &Value) -> Result<RowId, Unread> {
         read_row_id(read_text(json)?)
     }
+}
+
+/// The number of a row as lines have it.
+pub fn row_id_json(alloc: Global, id: &RowId) -> Result<Value, AllocError>
+    ensures { IfOk result (λ json. view json ≡ codec.row_id.written id.now) }
+{
+    json_of::<Audit<Second>, _>(alloc, id)
+}
+
+/// The values of a row as lines have them.
+pub fn row_values_json(alloc: Global, row: &Row) -> Result<Value, AllocError>
+    ensures { IfOk result (λ json. view json ≡ codec.row.written row.now) }
+{
+    json_of::<Audit<Second>, _>(alloc, row)
 }
 
 /// The number of a row.

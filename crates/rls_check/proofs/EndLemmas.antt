@@ -14,7 +14,7 @@ use Rattle.rls_catalog.specs.State.{State, AgreesAt, AgreesOn, with_key, is_same
 use Rattle.rls_catalog.specs.Changed.{opening, changed, changed_all}
 use Rattle.rls_catalog.specs.Bases.{Fits, covers, covers_any, row_at}
 use Rattle.rls_explain.specs.rls_meaning.specs.rls_guard.specs.rls_source.specs.Once.{agrees_on_reads}
-use Rattle.rls_check.specs.Checking.{state_by, wide_of, wide_of_all, AgreeWhere}
+use Rattle.rls_agreement.specs.Committing.{state_by, wide_of, wide_of_all, AgreeWhere}
 
 -- a change leaves what it doesn't cover
 abbrev pub UncoveredStays : Type 0

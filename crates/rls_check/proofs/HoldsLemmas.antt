@@ -18,7 +18,8 @@ use Rattle.rls_history.specs.Orders.{precedes, with_placed, none_placed, IsNext,
 use Rattle.rls_audit.specs.rls_conflict.specs.Transactions as conflict
 use Rattle.rls_audit.specs.rls_core.specs.Records.{Record, nobody, record_at, transaction_of, history_by, state_after}
 use Rattle.rls_audit.specs.rls_core.specs.Alone.{effects_alone, state_alone, changes_made, Explains}
-use Rattle.rls_audit.specs.Lines.{Line, Head, Txn, End, Shown, Answered, Written, written_by, reply_of, decisions_of, ordered_changes, answered, shown, lines_from, audit_of}
+use Rattle.rls_audit.specs.Lines.{Line, Head, Txn, End, Shown, Answered, Written, written_by, ordered_changes, answered, shown, lines_from, audit_of}
+use Rattle.rls_explain.specs.rls_meaning.specs.rls_guard.specs.Effects.{reply_of, decisions_of}
 use Rattle.rls_audit.specs.Audits.{AreRecords, ChangesAreMade, numbers_at, AuditHolds}
 use Rattle.rls_check.specs.declared.transaction.Answer.{Answer}
 use Rattle.rls_check.specs.declared.transaction.Transaction.{Transaction}
@@ -28,8 +29,9 @@ use Rattle.rls_check.specs.declared.running.RanAlone.TheVariants as alone
 use Rattle.rls_check.specs.declared.running.RanAlong.{RanAlong}
 use Rattle.rls_check.specs.declared.running.RanAlong.TheVariants as along
 use Rattle.rls_check.specs.Audited.{written_of, answered_of, shown_of, lines_between, lines_of, transaction_at, asked_of}
-use Rattle.rls_check.specs.Checking.{FirstOther, IsRunAlone, RunsAlong, EndsAs, AgreeWhere, IsFoundAlong, IsPlaced, history_of, ctx_of, effects_in, state_behind, state_by, no_changes}
-use Rattle.rls_check.proofs.CommittingLemmas.{no_changes_many}
+use Rattle.rls_check.specs.Checking.{FirstOther, IsRunAlone, RunsAlong, EndsAs, IsFoundAlong, IsPlaced, history_of, ctx_of, effects_in, state_behind}
+use Rattle.rls_agreement.specs.Committing.{AgreeWhere, state_by, no_changes}
+use Rattle.rls_check.proofs.RunningLemmas.{no_changes_many}
 use Rattle.rls_check.proofs.OrderLemmas.{among, placed_among, apart, in_range, began_at, own_among, one_order, next_began}
 use Rattle.rls_check.proofs.EndLemmas.{UncoveredStays, IsWide, agrees_itself, agrees_on, stays_all, uncovered_at, covers_one, agree_everywhere}
 

@@ -30,7 +30,8 @@ use Rattle.rls_audit.specs.declared.changes.Changed.TheVariants as changed
 use Rattle.rls_check.specs.declared.transaction.Put.{Put}
 use Rattle.rls_check.specs.declared.transaction.Put.TheVariants as put
 use Rattle.rls_check.specs.Audited.{written_of}
-use Rattle.rls_check.specs.Keeping.{IsMade, IsSpelledText, KeepsPut, NamesKey, NamesKeys, place_of, policy_in, table_of}
+use Rattle.rls_check.specs.Keeping.{IsMade, IsSpelledText, KeepsPut, NamesKey, NamesKeys, policy_in, table_of}
+use Rattle.rls_audit.specs.FirstKeys.{place_of}
 
 -- ---- lists that belong together
 

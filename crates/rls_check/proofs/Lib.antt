@@ -1,12 +1,11 @@
 pub mod EndLemmas
 pub mod OrderLemmas
 pub mod PlacingLemmas
+pub mod RunningLemmas
 pub mod HoldsLemmas
 pub mod HeldLemmas
 pub mod FirstLemmas
 pub mod ExplainedLemmas
-pub mod CommittingLemmas
-pub mod RunningLemmas
 pub mod FormLemmas
 pub mod StoredLemmas
 pub mod KeepingLemmas

@@ -29,7 +29,8 @@ use Rattle.rls_check.specs.declared.transaction.Put.{Put}
 use Rattle.rls_check.specs.declared.transaction.Transaction.{Transaction}
 use Rattle.rls_check.specs.declared.audit.Audit.{Audit}
 use Rattle.rls_check.specs.Audited.{answered_of, written_of, shown_of, lines_between, lines_of}
-use Rattle.rls_check.specs.Keeping.{KeepsAnswer, KeepsPut, Keeps, AreKept, IsFirstNamed, KeyIsFirst, KeysAreFirst, lines_read, place_of, table_of}
+use Rattle.rls_check.specs.Keeping.{KeepsAnswer, KeepsPut, Keeps, AreKept, lines_read, table_of}
+use Rattle.rls_audit.specs.FirstKeys.{IsFirstNamed, KeyIsFirst, KeysAreFirst, place_of}
 use Rattle.rls_check.specs.KeepingLaws.{asked_one, policies_one, same_begin}
 use Rattle.rls_check.specs.Wholes.{StandsBehind, StandInTurn, IsTextOf, AreSomeAudit, IsAuditOf}
 use Rattle.rls_check.proofs.FormLemmas.{one_line}

@@ -15,7 +15,8 @@ use Rattle.rls_check.specs.declared.running.RanAlone.TheVariants as alone
 use Rattle.rls_check.specs.declared.running.RanAlong.{RanAlong}
 use Rattle.rls_check.specs.declared.running.RanAlong.TheVariants as along
 use Rattle.rls_check.specs.Audited.{transaction_at}
-use Rattle.rls_check.specs.Checking.{FirstOther, IsRunAlone, RunsAlong, EndsAs, IsFoundAlong, IsFirst, no_changes, ctx_of}
+use Rattle.rls_check.specs.Checking.{FirstOther, IsRunAlone, RunsAlong, EndsAs, IsFoundAlong, IsFirst, ctx_of}
+use Rattle.rls_agreement.specs.Committing.{no_changes}
 use Rattle.rls_check.proofs.HeldLemmas.{same_order}
 
 first_once : (n : ℕ) (ctx : Ctx) (s : State) (answers : List Answer) (a b : Option ℕ) → FirstOther n ctx s answers a → FirstOther n ctx s answers b → a ≡ b

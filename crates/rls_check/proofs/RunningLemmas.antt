@@ -8,16 +8,21 @@ use Rattle.rls_catalog.specs.State.{State}
 use Rattle.rls_catalog.specs.Changed.{opening}
 use Rattle.rls_history.specs.Orders.{StandInTurn, IsOrder, placed_by, with_placed, none_placed}
 use Rattle.rls_check.specs.declared.transaction.Transaction.{Transaction}
-use Rattle.rls_check.specs.declared.committing.Committing.{Committing}
+use Rattle.rls_agreement.specs.declared.committing.Committing.{Committing}
 use Rattle.rls_check.specs.declared.finding.Finding.{Finding}
 use Rattle.rls_check.specs.declared.finding.Finding.TheVariants as f
 use Rattle.rls_check.specs.declared.running.RanAlone.TheVariants as alone
 use Rattle.rls_check.specs.declared.running.RanAlong.{RanAlong}
 use Rattle.rls_check.specs.declared.running.RanAlong.TheVariants as along
 use Rattle.rls_check.specs.Audited.{transaction_at}
-use Rattle.rls_check.specs.Checking.{AgreeWhere, IsFoundAlong, IsRunAlone, RunsAlong, history_of, no_changes, state_by}
-use Rattle.rls_check.specs.Committing.{HasRunAlong, IsCommitting}
-use Rattle.rls_check.proofs.CommittingLemmas.{no_changes_many}
+use Rattle.rls_check.specs.Checking.{IsFoundAlong, IsRunAlone, RunsAlong, history_of}
+use Rattle.rls_agreement.specs.Committing.{AgreeWhere, no_changes, state_by, IsCommitting}
+use Rattle.rls_check.specs.Committing.{HasRunAlong}
+
+-- no changes at so many places
+pub no_changes_many : (n : ℕ) → length (no_changes n) ≡ n
+no_changes_many zero = refl
+no_changes_many (suc n) = let rest = no_changes_many n in omega (arith, rest)
 
 -- what the run of the rest comes to is what the run of all does
 pub record IsRunning (ts : List Transaction) (places rest : List ℕ) (s : State) (it : Committing) : Type 0 where

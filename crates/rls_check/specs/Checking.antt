@@ -1,20 +1,18 @@
 -- What is found first in an audit, along its order.
-use Rattle.std.specs.Prelude.{◌≡◌, ◌⊎◌, ℕ, suc, zero, ◌+◌, ◌<◌, Bool, false, List, [], ◌∷◌, ◌++◌, map, length, get_or, set, Option, Some, None}
+use Rattle.std.specs.Prelude.{◌≡◌, ◌⊎◌, ℕ, ◌+◌, ◌<◌, Bool, false, List, [], ◌∷◌, map, length, set, Option, Some, None}
 use Rattle.std.specs.List.{All, flat_map}
-use Rattle.rls_value.specs.declared.object.Object.{Object}
-use Rattle.rls_value.specs.declared.object.Object.TheVariants as o
 use Rattle.rls_catalog.specs.declared.change.Change.{Change}
-use Rattle.rls_catalog.specs.declared.change.Change.TheVariants as c
-use Rattle.rls_catalog.specs.State.{State, AgreesOn}
+use Rattle.rls_catalog.specs.State.{State}
 use Rattle.rls_catalog.specs.Changed.{opening, changed_all}
-use Rattle.rls_explain.specs.rls_meaning.specs.rls_guard.specs.rls_source.specs.Footprints.{footprint_of}
 use Rattle.rls_explain.specs.rls_meaning.specs.rls_guard.specs.{declared.context.Ctx.Ctx, declared.effect.Effect.Effect, Effects.changes_of}
 use Rattle.rls_audit.specs.rls_access.specs.Transactions.{first_ctx, ctx_after}
 use Rattle.rls_explain.specs.rls_meaning.specs.Meaning.{effect_of}
 use Rattle.rls_history.specs.History.{History}
 use Rattle.rls_history.specs.Orders.{IsOrder}
 use Rattle.rls_audit.specs.rls_core.specs.Alone.{effects_alone, state_alone, changes_made}
-use Rattle.rls_audit.specs.Lines.{written_by, reply_of, decisions_of, ordered_changes}
+use Rattle.rls_audit.specs.Lines.{ordered_changes, written_by}
+use Rattle.rls_explain.specs.rls_meaning.specs.rls_guard.specs.Effects.{IsTold}
+use Rattle.rls_agreement.specs.Committing.{AgreeWhere, no_changes, state_by}
 use Rattle.rls_check.specs.declared.transaction.Put.{Put}
 use Rattle.rls_check.specs.declared.transaction.Answer.{Answer}
 use Rattle.rls_check.specs.declared.transaction.Transaction.{Transaction}
@@ -33,9 +31,8 @@ Decided P Then Else = (P × Then) ⊎ ((P → ⊥) × Else)
 -- ---- one transaction
 
 -- the effect is the answer that is shown
-pub record IsAnswer (it : Answer) (effect : Effect) : Type 0 where
-  pub reply : it.reply ≡ reply_of effect
-  pub decisions : it.decisions ≡ decisions_of effect
+abbrev pub IsAnswer : Answer → Effect → Type 0
+IsAnswer it effect = IsTold it.reply it.decisions effect
 
 -- the changes are those that are shown
 abbrev pub ArePuts : List Put → List Change → Type 0
@@ -82,34 +79,6 @@ RunsAlong transactions s deltas [] ran left = (ran ≡ along.Agrees s) × (left 
 RunsAlong transactions s deltas (place ∷ places) ran left =
     ((after : State) × (changes : List Change) × IsRunAlone s (transaction_at transactions place) (alone.Agrees after changes) × RunsAlong transactions after (set deltas place changes) places ran left)
     ⊎ ((found : Finding) × IsRunAlone s (transaction_at transactions place) (alone.Differs found) × (ran ≡ along.Differs found))
-
--- no changes at so many places
-abbrev pub no_changes : ℕ → List (List Change)
-no_changes zero = []
-no_changes (suc n) = [] ∷ no_changes n
-
--- the state after so many commits with these changes
-abbrev pub state_by : List (List Change) → ℕ → State
-state_by deltas zero = opening
-state_by deltas (suc n) = changed_all (state_by deltas n) (get_or deltas n [])
-
--- the object that the change writes; of a row all rows of its table
-abbrev pub wide_of : Change → Object
-wide_of (c.Role name def) = o.Role name
-wide_of (c.Members member content) = o.Members member
-wide_of (c.Table name def) = o.Table name
-wide_of (c.Grants table content) = o.Grants table
-wide_of (c.Policies table content) = o.Policies table
-wide_of (c.Row row) = o.Rows row.table
-
--- those that the changes write
-abbrev pub wide_of_all : List (List Change) → List Object
-wide_of_all [] = []
-wide_of_all (changes ∷ more) = map wide_of changes ++ wide_of_all more
-
--- the two states agree on all that the changes write
-abbrev pub AgreeWhere : List (List Change) → State → State → Type 0
-AgreeWhere deltas s other = AgreesOn s other (footprint_of (wide_of_all deltas))
 
 -- what is found once all have run
 abbrev pub EndsAs : RanAlong → List (List Change) → Finding → Type 0

@@ -20,6 +20,7 @@ use Rattle.rls_audit.specs.declared.lines.Shown.{Shown}
 use Rattle.rls_audit.specs.declared.lines.Line.{Line}
 use Rattle.rls_audit.specs.declared.lines.Line.TheVariants.{Head, Txn, End}
 use Rattle.rls_audit.specs.Shows.{NamesColumn, SpellsPolicy, ShowsAnswered}
+use Rattle.rls_audit.specs.FirstKeys.{place_of}
 use Rattle.rls_check.specs.declared.transaction.Answer.{Answer}
 use Rattle.rls_check.specs.declared.transaction.Put.{Put}
 use Rattle.rls_check.specs.declared.transaction.Put.TheVariants as put
@@ -35,10 +36,6 @@ abbrev pub policy_in : Statement → Option Policy
 policy_in (st.CreatePolicy create) = Some create.policy
 policy_in _ = None
 
--- the place of the first column of that name, or behind the last one
-abbrev pub place_of : List Column → List ℕ → ℕ
-place_of columns name = position_or_len (λ column. bytes_eq column.name name) columns
-
 -- each name in the key is that of a column
 abbrev pub NamesKey : TableShape → Type 0
 NamesKey shape = (places : List ℕ) × AllZip (NamesColumn shape.columns) shape.key places
@@ -47,23 +44,6 @@ NamesKey shape = (places : List ℕ) × AllZip (NamesColumn shape.columns) shape
 abbrev pub NamesKeys : Changed → Type 0
 NamesKeys (c.Table name shape) = NamesKey shape
 NamesKeys _ = Unit {0}
-
--- the column at the place is the first of its name
-abbrev pub IsFirstNamed : List Column → ℕ → Type 0
-IsFirstNamed columns place = (name : List ℕ) × NamesColumn columns name place × (place_of columns name ≡ place)
-
--- so is each column of the table's key
-abbrev pub HasFirstKey : TableDef → Type 0
-HasFirstKey def = All (IsFirstNamed def.columns) def.key
-
--- if it is a table, so is each of its key
-abbrev pub KeyIsFirst : Content → Type 0
-KeyIsFirst (lines.Table def) = HasFirstKey def
-KeyIsFirst _ = Unit {0}
-
--- of each table that the record's statements wrote
-abbrev pub KeysAreFirst : Record → Type 0
-KeysAreFirst it = All (λ effect. All (λ change. KeyIsFirst (content_of change)) (changes_of effect)) it.effects
 
 -- the statement is the text's, and its answer is kept
 abbrev pub KeepsAnswer : Answered → Answer → Type 0

@@ -7,7 +7,6 @@ pub mod Walking
 pub mod WalkLaws
 pub mod Findings
 pub mod WhyTexts
-pub mod Escaped
 pub mod ShownFilters
 pub mod ShownRows
 pub mod ShownObjects

@@ -8,11 +8,11 @@ ghost use Rattle.rls_check.specs.Checking.{IsFirst, IsFoundAlong, history_of};
 ghost use Rattle.rls_check.specs.declared.finding.Finding.TheVariants.{Holds};
 
 use crate::audit::Audit;
-use crate::committing::Committing;
 use crate::finding::Finding;
 use crate::ordering::places_of;
 use crate::running::{RanAlong, run_along};
 use crate::stored::Stored;
+use rls_agreement::Committing;
 use rls_explain::rls_guard::rls_source::uncovered_stays;
 use std::alloc::{AllocError, Global};
 

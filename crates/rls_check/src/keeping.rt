@@ -6,6 +6,7 @@ ghost use Rattle.rls_statement.specs.declared.statement.Statement.{Statement};
 ghost use Rattle.rls_audit.specs.rls_text.specs.{ParseResults.IsSpelled, Words.words_of};
 ghost use Rattle.rls_audit.specs.{Asked.IsAsked, Reading.HasStatement, Reading.HasPolicies, Reading.IsStatementText, Reading.IsPolicyText};
 ghost use Rattle.rls_audit.specs.Shows.{SpellsPolicy};
+ghost use Rattle.rls_audit.specs.FirstKeys.{place_of as spec_place_of};
 ghost use Rattle.rls_check.specs.Keeping as spec;
 ghost use Rattle.rls_check.specs.Keeping.{IsMade, IsSpelledText, Keeps, KeepsAnswer, KeepsPut, table_of};
 
@@ -149,7 +150,7 @@ fn def_of(alloc: Global, shape: TableShape) -> Result<TableDef, AllocError>
 }
 
 fn places_of(alloc: Global, columns: &[Column], key: &[Name]) -> Result<Items<usize>, AllocError>
-    ensures { IfOk result (λ places. places ≡ map (spec.place_of columns.now) key.now) }
+    ensures { IfOk result (λ places. places ≡ map (spec_place_of columns.now) key.now) }
 {
     let mut places = Items::with_capacity(alloc, key.len())?;
     for name in key {
@@ -160,7 +161,7 @@ fn places_of(alloc: Global, columns: &[Column], key: &[Name]) -> Result<Items<us
 
 /// The place of the first column of that name; behind the last one where there is none.
 fn place_of(columns: &[Column], name: &Name) -> usize
-    ensures { result ≡ spec.place_of columns.now name.now }
+    ensures { result ≡ spec_place_of columns.now name.now }
 {
     let mut place = 0;
     let mut rest = columns;

@@ -1,13 +1,10 @@
 //! Whole audits: read line by line, checked, explained, converted.
 #![tactic(auto)]
 
-mod agreeing;
 mod alone;
 mod audit;
 mod checking;
-mod committing;
 mod converting;
-mod escaping;
 mod explaining;
 mod filtering;
 mod finding;

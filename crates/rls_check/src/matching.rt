@@ -1,41 +1,24 @@
 //! Whether what a run comes to is what is shown.
 
 ghost use Rattle.std.specs.Prelude.{◌≡◌, ◌↔◌, true, map, option_map};
-ghost use Rattle.rls_audit.specs.Lines as lines;
-ghost use Rattle.rls_audit.specs.Lines.{grant_shape, reply_of, written_by};
+ghost use Rattle.rls_audit.specs.Lines.{grant_shape, written_by};
 ghost use Rattle.rls_check.specs.Audited.{written_of};
 ghost use Rattle.rls_check.specs.Checking.{ArePuts, IsAnswer};
 
 use crate::transaction::{Answer, Put};
 use rls_agreement::rls_equality::{Same, are_both_same, are_items_of, are_policies_of};
 use rls_audit::GrantShape;
-use rls_audit::rls_access::{Decision, Effect};
+use rls_audit::rls_access::Effect;
 use rls_catalog::{Change, Grant, Grants, Keyed};
-use rls_value::{Items, Row};
+use rls_value::Row;
 
 /// Whether the effect is the reply or the refusal that is shown, with its decisions.
 pub(crate) fn is_answer(answer: &Answer, effect: &Effect) -> bool
     ensures { (result ≡ true) ↔ IsAnswer answer.now effect.now }
 {
-    is_reply(answer, effect) && answer.decisions.is_same(decisions_of(effect))
-}
-
-fn is_reply(answer: &Answer, effect: &Effect) -> bool
-    ensures { (result ≡ true) ↔ (answer.now.reply ≡ reply_of effect.now) }
-{
-    match (&answer.reply, effect) {
-        (Ok(reply), Effect::Done(made, _, _, _)) => reply.is_same(made),
-        (Err(refused), Effect::Refused(made, _)) => refused.get().is_same(made),
-        (_, _) => false,
-    }
-}
-
-fn decisions_of(effect: &Effect) -> &Items<Decision>
-    ensures { result.now ≡ lines.decisions_of effect.now }
-{
-    match effect {
-        Effect::Done(_, decisions, _, _) => decisions,
-        Effect::Refused(_, decisions) => decisions,
+    match &answer.reply {
+        Ok(reply) => effect.is_done_with(reply, &answer.decisions),
+        Err(refused) => effect.is_refused_with(refused.get(), &answer.decisions),
     }
 }
 

@@ -9,8 +9,7 @@ ghost use Rattle.rls_check.specs.ShownObjects as spec;
 use crate::shown_rows::{reason_text, row_word};
 use crate::texts::came_text;
 use crate::walking::Turn;
-use rls_audit::{Audit, Second, printed};
-use rls_codec::json_of;
+use rls_audit::{printed, row_id_json, row_values_json};
 use rls_explain::{Reason, RowOutcome};
 use rls_value::Row;
 use serde_json::{Value, json};
@@ -77,7 +76,7 @@ fn row_json(alloc: Global, one: &RowOutcome) -> Result<Value, AllocError>
     json!(in alloc; [
         row_word(one.word),
         one.table.as_str(),
-        json_of::<Audit<Second>, _>(alloc, &one.id)?,
+        row_id_json(alloc, &one.id)?,
         values_json(alloc, row_now(one))?,
         json_before(alloc, one)?,
         reason_json(alloc, &one.reason)?
@@ -106,7 +105,7 @@ fn json_before(alloc: Global, one: &RowOutcome) -> Result<Value, AllocError>
 fn values_json(alloc: Global, row: &Row) -> Result<Value, AllocError>
     ensures { IfOk result (λ json. view json ≡ spec.values_data row.now) }
 {
-    json_of::<Audit<Second>, _>(alloc, row)
+    row_values_json(alloc, row)
 }
 
 fn reason_json(alloc: Global, reason: &Option<Reason>) -> Result<Value, AllocError>

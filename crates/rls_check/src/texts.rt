@@ -3,7 +3,7 @@
 ghost use Rattle.std.specs.Prelude.{◌≡◌, ◌++◌, codes, string_bytes, IfOk, OnOk};
 ghost use Rattle.rls_value.specs.Refusals.{code_of};
 ghost use Rattle.rls_check.specs.WhyTexts.{came_text, counted_tag, decision_lines, ended_line, explained_lines, explanation_text, head_text, place_text, row_lines, said_lines};
-ghost use Rattle.rls_audit.specs.Lines as shown;
+ghost use Rattle.rls_explain.specs.rls_meaning.specs.rls_guard.specs.Effects.{decisions_of as spec_decisions_of};
 ghost use Rattle.rls_explain.specs.Texts.{decision_text};
 
 use crate::explaining::Why;
@@ -110,7 +110,7 @@ fn refusal_text(alloc: Global, refusal: &Refusal) -> Result<String, AllocError>
 }
 
 fn decisions_of(effect: &Effect) -> &[Decision]
-    ensures { result.now ≡ shown.decisions_of effect.now }
+    ensures { result.now ≡ spec_decisions_of effect.now }
 {
     match effect {
         Effect::Done(_, decisions, _, _) => decisions.as_slice(),

@@ -3,7 +3,7 @@
 ghost use Rattle.std.specs.Prelude.{◌≡◌, [], ◌∷◌, IfOk, unwrap_or};
 ghost use Rattle.std.specs.Option.{option_or};
 ghost use Rattle.rls_value.specs.Giving.{Gives};
-ghost use Rattle.rls_source.specs.Answering.{Answers};
+ghost use Rattle.rls_guard.specs.rls_source.specs.Answering.{Answers};
 ghost use Rattle.rls_guard.specs.{Effects.writes, Naming.names_over};
 ghost use Rattle.rls_ddl.specs.AlteringPolicies as spec;
 ghost use Rattle.rls_ddl.specs.AlteringPolicies.{alter_policy, alteration_on, alteration_of, alteration_over, alteration_made, conditions_or_refused, roles_or_undefined};
@@ -11,10 +11,10 @@ ghost use Rattle.rls_ddl.specs.AlteringPolicies.{alter_policy, alteration_on, al
 use crate::conditions::{found_for, require_booleans, require_supported};
 use crate::named_policies::policy_named;
 use crate::policies_written::written;
-use rls_catalog::{Change, Policies, find_policy, with_replaced};
 use rls_expr::{Expr, Grantee, NamedTable, Policy, TableDef, copy_shared};
+use rls_guard::rls_catalog::{Change, Policies, find_policy, with_replaced};
+use rls_guard::rls_source::{Reads, RowSource, noted_policies, require_grantees, table_named};
 use rls_guard::{Ctx, Effect, require_ownership};
-use rls_source::{Reads, RowSource, noted_policies, require_grantees, table_named};
 use rls_statement::AlterPolicy;
 use rls_value::shared::Share;
 use rls_value::{Items, Kind, Name, PolicyKind, Refusal};

@@ -1,13 +1,13 @@
 //! ALTER ROLE.
 
 ghost use Rattle.std.specs.Prelude.{◌≡◌, [], ◌∷◌, IfOk};
-ghost use Rattle.rls_source.specs.Answering.{Answers};
+ghost use Rattle.rls_guard.specs.rls_source.specs.Answering.{Answers};
 ghost use Rattle.rls_guard.specs.Effects.{writes};
 ghost use Rattle.rls_ddl.specs.AlteringRoles.{alter_role, role_altered, role_changed};
 
-use rls_catalog::{Change, RoleDef};
+use rls_guard::rls_catalog::{Change, RoleDef};
+use rls_guard::rls_source::{Reads, RowSource, role_named};
 use rls_guard::{Ctx, Effect, require_superuser};
-use rls_source::{Reads, RowSource, role_named};
 use rls_statement::AlterRole;
 use rls_value::{Name, Refusal};
 use std::alloc::{AllocError, Global};

@@ -1,14 +1,14 @@
 //! ALTER TABLE of row security.
 
 ghost use Rattle.std.specs.Prelude.{◌≡◌, [], ◌∷◌, IfOk};
-ghost use Rattle.rls_source.specs.Answering.{Answers};
+ghost use Rattle.rls_guard.specs.rls_source.specs.Answering.{Answers};
 ghost use Rattle.rls_guard.specs.Effects.{writes};
 ghost use Rattle.rls_ddl.specs.AlteringTables.{altered, alter_table};
 
-use rls_catalog::Change;
 use rls_expr::TableDef;
+use rls_guard::rls_catalog::Change;
+use rls_guard::rls_source::{Reads, RowSource, table_named};
 use rls_guard::{Ctx, Effect, require_ownership};
-use rls_source::{Reads, RowSource, table_named};
 use rls_statement::{AlterTable, RowSecurity};
 use rls_value::Refusal;
 use std::alloc::{AllocError, Global};

@@ -3,7 +3,7 @@
 ghost use Rattle.std.specs.Prelude.{◌≡◌, [], ◌∷◌, Some, map, IfOk};
 ghost use Rattle.rls_value.specs.Giving.{Gives};
 ghost use Rattle.rls_expr.specs.{Naming.step_of, Resolving.names_in};
-ghost use Rattle.rls_source.specs.Answering.{Answers};
+ghost use Rattle.rls_guard.specs.rls_source.specs.Answering.{Answers};
 ghost use Rattle.rls_guard.specs.Naming.{named, names_over};
 ghost use Rattle.rls_ddl.specs.Conditions as spec;
 ghost use Rattle.rls_ddl.specs.Conditions.{both_conditions, condition_fits, condition_names};
@@ -12,8 +12,8 @@ use rls_expr::{
     Expr, NameStep, NamedTable, Scope, TableDef, is_boolean, put_shared_names, resolve_columns,
     typing_of,
 };
+use rls_guard::rls_source::{Reads, RowSource};
 use rls_guard::{Found, is_unsupported, named_over};
-use rls_source::{Reads, RowSource};
 use rls_value::shared::Share;
 use rls_value::{Name, Refusal};
 use std::alloc::{AllocError, Global};

@@ -2,9 +2,9 @@
 
 ghost use Rattle.std.specs.Prelude.{◌≡◌, ◌∷◌, [], false, IfOk, OnOk};
 ghost use Rattle.rls_value.specs.Giving.{Gives};
-ghost use Rattle.rls_catalog.specs.PolicyLists as lists;
-ghost use Rattle.rls_catalog.specs.PolicyLists.{has_policy};
-ghost use Rattle.rls_source.specs.Answering.{Answers};
+ghost use Rattle.rls_guard.specs.rls_catalog.specs.PolicyLists as lists;
+ghost use Rattle.rls_guard.specs.rls_catalog.specs.PolicyLists.{has_policy};
+ghost use Rattle.rls_guard.specs.rls_source.specs.Answering.{Answers};
 ghost use Rattle.rls_guard.specs.{Effects.writes, Naming.names_over};
 ghost use Rattle.rls_ddl.specs.CreatingPolicies as spec;
 ghost use Rattle.rls_ddl.specs.CreatingPolicies.{create_policy, policy_added, policy_made, policy_or_refused};
@@ -12,10 +12,10 @@ ghost use Rattle.rls_ddl.specs.CreatingPolicies.{create_policy, policy_added, po
 use crate::conditions::{found_for, require_booleans, require_supported};
 use crate::named_policies::is_there;
 use crate::policies_written::written;
-use rls_catalog::{Change, Policies, with_policy};
 use rls_expr::{NamedTable, Policy, TableDef};
+use rls_guard::rls_catalog::{Change, Policies, with_policy};
+use rls_guard::rls_source::{Reads, RowSource, noted_policies, require_grantees, table_named};
 use rls_guard::{Ctx, Effect, require_ownership};
-use rls_source::{Reads, RowSource, noted_policies, require_grantees, table_named};
 use rls_statement::CreatePolicy;
 use rls_value::{DefinedKind, Limit, Name, Refusal};
 use std::alloc::{AllocError, Global};

@@ -1,13 +1,13 @@
 //! CREATE ROLE.
 
 ghost use Rattle.std.specs.Prelude.{◌≡◌, [], ◌∷◌, IfOk};
-ghost use Rattle.rls_source.specs.Answering.{Answers};
+ghost use Rattle.rls_guard.specs.rls_source.specs.Answering.{Answers};
 ghost use Rattle.rls_guard.specs.Effects.{writes};
 ghost use Rattle.rls_ddl.specs.CreatingRoles.{create_role, role_made, role_with};
 
-use rls_catalog::{Change, RoleDef};
+use rls_guard::rls_catalog::{Change, RoleDef};
+use rls_guard::rls_source::{Reads, RowSource, noted_role};
 use rls_guard::{Ctx, Effect, require_superuser};
-use rls_source::{Reads, RowSource, noted_role};
 use rls_statement::CreateRole;
 use rls_value::{DefinedKind, Name, Refusal};
 use std::alloc::{AllocError, Global};

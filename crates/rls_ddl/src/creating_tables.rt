@@ -1,18 +1,18 @@
 //! CREATE TABLE.
 
 ghost use Rattle.std.specs.Prelude.{◌≡◌, [], ◌∷◌, IfOk};
-ghost use Rattle.rls_source.specs.Answering.{Answers};
+ghost use Rattle.rls_guard.specs.rls_source.specs.Answering.{Answers};
 ghost use Rattle.rls_guard.specs.Effects.{writes};
 ghost use Rattle.rls_ddl.specs.CreatingTables as spec;
 ghost use Rattle.rls_ddl.specs.CreatingTables.{table_with};
 ghost use Rattle.rls_guard.specs.rls_grant.specs.Granting.{own_grants, with_grants};
 
 use crate::primary_keys::{columns_of, key_places};
-use rls_catalog::{Change, Delta, Grants};
 use rls_expr::TableDef;
+use rls_guard::rls_catalog::{Change, Delta, Grants};
 use rls_guard::rls_grant::{own_grants, put_grants};
+use rls_guard::rls_source::{Reads, RowSource, noted_grants, noted_table};
 use rls_guard::{Ctx, Effect};
-use rls_source::{Reads, RowSource, noted_grants, noted_table};
 use rls_statement::CreateTable;
 use rls_value::{DefinedKind, Items, Name, Refusal};
 use std::alloc::{AllocError, Global};

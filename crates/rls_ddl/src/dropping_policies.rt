@@ -1,18 +1,18 @@
 //! DROP POLICY.
 
 ghost use Rattle.std.specs.Prelude.{◌≡◌, [], ◌∷◌, IfOk};
-ghost use Rattle.rls_catalog.specs.PolicyLists as lists;
-ghost use Rattle.rls_source.specs.Answering.{Answers};
+ghost use Rattle.rls_guard.specs.rls_catalog.specs.PolicyLists as lists;
+ghost use Rattle.rls_guard.specs.rls_source.specs.Answering.{Answers};
 ghost use Rattle.rls_guard.specs.Effects.{writes};
 ghost use Rattle.rls_ddl.specs.DroppingPolicies as spec;
 ghost use Rattle.rls_ddl.specs.DroppingPolicies.{drop_policy, drop_on, policy_dropped};
 
 use crate::named_policies::policy_named;
 use crate::policies_written::written;
-use rls_catalog::{Change, Policies, without_policy};
 use rls_expr::TableDef;
+use rls_guard::rls_catalog::{Change, Policies, without_policy};
+use rls_guard::rls_source::{Reads, RowSource, noted_policies, table_named};
 use rls_guard::{Ctx, Effect, require_ownership};
-use rls_source::{Reads, RowSource, noted_policies, table_named};
 use rls_statement::DropPolicy;
 use rls_value::{Name, Refusal};
 use std::alloc::{AllocError, Global};

@@ -1,12 +1,12 @@
 //! GRANT and REVOKE, of privileges and of roles.
 
-ghost use Rattle.rls_source.specs.Answering.{Answers};
+ghost use Rattle.rls_guard.specs.rls_source.specs.Answering.{Answers};
 ghost use Rattle.rls_ddl.specs.Granting as spec;
 
 use rls_guard::rls_grant::{grant, revoke};
 use rls_guard::rls_role::{grant_member, revoke_member};
+use rls_guard::rls_source::{Reads, RowSource};
 use rls_guard::{Ctx, Effect};
-use rls_source::{Reads, RowSource};
 use rls_statement::{GrantPrivileges, GrantRoles, RevokePrivileges, RevokeRoles};
 use rls_value::Refusal;
 use std::alloc::Global;

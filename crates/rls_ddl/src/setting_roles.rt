@@ -1,14 +1,14 @@
 //! SET ROLE and RESET ROLE.
 
 ghost use Rattle.std.specs.Prelude.{◌≡◌, IfOk};
-ghost use Rattle.rls_source.specs.Answering.{Answers, Tells};
+ghost use Rattle.rls_guard.specs.rls_source.specs.Answering.{Answers, Tells};
 ghost use Rattle.rls_ddl.specs.SettingRoles as spec;
 ghost use Rattle.rls_ddl.specs.SettingRoles.{asked_may_set, role_set, sets};
 
-use rls_catalog::Delta;
+use rls_guard::rls_catalog::Delta;
 use rls_guard::rls_role::{Step, effective_roles_by, note_effective_roles};
+use rls_guard::rls_source::{Reads, RowSource, role_named};
 use rls_guard::{Ctx, Effect, Reply};
-use rls_source::{Reads, RowSource, role_named};
 use rls_statement::SetRole;
 use rls_value::{Items, Name, Refusal, Why};
 use std::alloc::{AllocError, Global};

@@ -4,12 +4,12 @@ use lib.ListN.{length-map}
 use Rattle.std.{specs.Prelude.◌≡◌, specs.Prelude.refl, specs.Prelude.ℕ, specs.Prelude.zero, specs.Prelude.suc, specs.Prelude.◌≤◌, specs.Prelude.◌<◌, specs.Prelude.List, specs.Prelude.[], specs.Prelude.◌∷◌, specs.Prelude.◌++◌, specs.Prelude.Option, specs.Prelude.Some, specs.Prelude.None, specs.Prelude.Bool, specs.Prelude.true, specs.Prelude.false, specs.Prelude.cond, specs.Prelude.Result, specs.Prelude.Ok, specs.Prelude.Err, specs.Prelude.IfOk, specs.Prelude.if◌then◌else◌, specs.Prelude.length, specs.Prelude.map, specs.Prelude.take, specs.Prelude.drop, specs.Prelude.filter, specs.BTreeMap.is_at, specs.BTreeMap.insert_entry, specs.List.AllByRecursion, specs.List.list_any, specs.List.Sorted.IsStrictlySortedBy, specs.declared.cmp.Ordering.Ordering, specs.Cmp.IsTotalOrder, specs.Map.lookup, specs.Map.remove_entry, specs.Map.keys_of, specs.Ordering.is_eq, specs.Ordering.match_ordering, specs.Ordering.ordering_reverse, specs.declared.cmp.Ordering.TheVariants.Less, specs.declared.cmp.Ordering.TheVariants.Equal, specs.declared.cmp.Ordering.TheVariants.Greater, proofs.Common.ap, proofs.Common.sym, proofs.Common.◌∙◌, proofs.Common.subst, proofs.lemmas.Cmp.tied_itself, proofs.lemmas.Cmp.on_total, proofs.lemmas.Cmp.then_total, proofs.lemmas.Cmp.nat_cmp_total, proofs.Math.Nat.suc-ne-zero, proofs.Math.Nat.suc_inj, proofs.Math.Nat.le-suc, proofs.Math.Nat.le_of_suc-le, proofs.Math.Nat.not-suc-le_self, proofs.Math.Nat.le_trans, proofs.Math.Nat.le_refl}
 use Rattle.rls_value.specs.{declared.refusal.Refusal.Refusal, declared.row.RowId.RowId, declared.value.Value.Value, Giving.and_then, Values.is_null, declared.verb.Privilege.Privilege, declared.verb.Kind.Kind}
 use Rattle.rls_expr.specs.{declared.table.TableDef.TableDef, Terms.Term, Terms.maybe_term}
-use Rattle.rls_catalog.{specs.declared.change.Change.Change, specs.declared.change.RowChange.RowChange, specs.declared.stored.Keyed.Keyed, specs.declared.stored.Stored.Stored, specs.Bases.Row, specs.Bases.FitsAll, specs.Bases.row_at, specs.Changed.changed, specs.Changed.with_row, specs.InOrder.Ascend, specs.InOrder.RowsInOrder, specs.State.State, specs.State.id_order, specs.State.is_same_id, specs.State.is_same_row, specs.State.stored_of, specs.State.rows_of, specs.State.entries_of, proofs.ContentsLaws.is_name, proofs.RowsChanged.entries_of_changed, proofs.RowsChanged.same_id, proofs.RowsChanged.equal_if}
+use Rattle.rls_guard.specs.rls_catalog.{specs.declared.change.Change.Change, specs.declared.change.RowChange.RowChange, specs.declared.stored.Keyed.Keyed, specs.declared.stored.Stored.Stored, specs.Bases.Row, specs.Bases.FitsAll, specs.Bases.row_at, specs.Changed.changed, specs.Changed.with_row, specs.InOrder.Ascend, specs.InOrder.RowsInOrder, specs.State.State, specs.State.id_order, specs.State.is_same_id, specs.State.is_same_row, specs.State.stored_of, specs.State.rows_of, specs.State.entries_of, proofs.ContentsLaws.is_name, proofs.RowsChanged.entries_of_changed, proofs.RowsChanged.same_id, proofs.RowsChanged.equal_if}
 use Rattle.rls_statement.specs.{declared.statement.Insert.Insert, declared.statement.Selected.Selected, declared.changing.Update.Update, declared.changing.Delete.Delete}
 use Rattle.rls_guard.specs.{declared.context.Ctx.Ctx, declared.role_privileges.RolePrivileges.RolePrivileges, declared.quals.RowCheck.RowCheck, declared.reply.Decision.Decision, declared.effect.Effect.Effect, RolePrivileges.role_privileges_of}
 use Rattle.rls_evaluation.specs.{declared.relation.SecuredRelation.SecuredRelation, Gathering.gathered, Showing.shows}
 use Rattle.rls_expansion.specs.{declared.expansion.PolicyExpansion.PolicyExpansion, Expanding.expansion_of, Expanding.permission_checks, Used.tables_if}
-use Rattle.rls_source.specs.{Asked.rows_at, Asked.keyed_at, Asked.asked_key, Askings.Asking, Askings.known, Askings.followed_by, Named.table_or_undefined}
+use Rattle.rls_guard.specs.rls_source.specs.{Asked.rows_at, Asked.keyed_at, Asked.asked_key, Askings.Asking, Askings.known, Askings.followed_by, Named.table_or_undefined}
 use Rattle.rls_dml.specs.{declared.analysed_insert.AnalysedInsert.AnalysedInsert, declared.analysed_update.AnalysedUpdate.AnalysedUpdate, declared.deleting.AnalysedDelete.AnalysedDelete, Checking.names_over_none, Checking.has_some, Checking.where_selected, Fitting.IfDone, Fitting.NumbersFree, Fitting.numbers_from, Fitting.Overwrite, Writing.checks_of, Writing.permissions_or_denied, Writing.order_of, Writing.rows_or_refused, Writing.each_with, Writing.each_taking, Writing.first_of, Writing.behind_first, Inserting.places_of, Inserting.tuple_resolved, Inserting.analysed_insert_named, Inserting.analysed_insert_resolved, Inserting.analysed_insert_in, Inserting.analysed_insert_or_refused, Inserting.analysed_insert_for, Inserting.row_of_tuple, Inserting.numbered, Inserting.new_rows, Inserting.inserted_row, Inserting.inserted, Inserting.insert_judged, Inserting.insert_rows, Inserting.insert_made, Inserting.insert_values, Inserting.tuples_tables, Inserting.insert_columns, Inserting.tuples_selected, Inserting.insert_columns_read, Inserting.insert_with_quals, Inserting.insert_as, Inserting.insert_into, Inserting.insert, Updating.analysed_update_for, Updating.update_columns, Updating.update_selected, Updating.update_columns_read, Updating.places_set, Updating.updated_row, Updating.updated_rows, Updating.changed_rows, Updating.updated, Updating.update_judged, Updating.update_rows, Updating.update_made, Updating.update_values, Updating.update_qualifying_rows, Updating.analysed_update_tables, Updating.update_with_quals, Updating.update_as, Updating.update_in, Updating.update, Deleting.analysed_delete_for, Deleting.delete_columns, Deleting.deleted_row, Deleting.deleted, Deleting.delete_qualifying_rows, Deleting.delete_with_quals, Deleting.delete_as, Deleting.delete_from, Deleting.delete}
 use Rattle.rls_judging.specs.{Judging.row_if_qualifying, Judging.qualifying_rows_of, Judging.judged_all, Judging.judged_old, Judging.with_judged, Judging.decisions_of, Valuing.assignments_of, Valuing.tuples_of, ScannedRows.pinned_key, ScannedRows.scanned_rows_with, ScannedRows.scanned_rows}
 

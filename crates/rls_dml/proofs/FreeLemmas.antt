@@ -4,9 +4,9 @@ use Rattle.std.proofs.Common.{arith, ap, sym, subst, ◌∙◌}
 use Rattle.std.proofs.Math.Nat.{le-suc, le_refl, le_trans, not-suc-le_self}
 use Rattle.std.proofs.lemmas.Option.{none-some}
 use Rattle.rls_value.specs.declared.row.RowId.{RowId}
-use Rattle.rls_catalog.specs.{declared.change.Change.Change, declared.change.RowChange.RowChange, declared.stored.Keyed.Keyed}
-use Rattle.rls_catalog.specs.declared.change.Change.TheVariants as c
-use Rattle.rls_catalog.specs.{Bases.FitsAll, Bases.row_at, Changed.changed, Changed.changed_all, State.State, State.is_same_id}
+use Rattle.rls_guard.specs.rls_catalog.specs.{declared.change.Change.Change, declared.change.RowChange.RowChange, declared.stored.Keyed.Keyed}
+use Rattle.rls_guard.specs.rls_catalog.specs.declared.change.Change.TheVariants as c
+use Rattle.rls_guard.specs.rls_catalog.specs.{Bases.FitsAll, Bases.row_at, Changed.changed, Changed.changed_all, State.State, State.is_same_id}
 use Rattle.rls_dml.specs.NextRows.{AllFree, NumberOn, is_new_row, new_rows, next_row}
 use Rattle.rls_dml.proofs.{FittingLemmas.not_if, FittingLemmas.row_at_other, PutLemmas.one_number}
 

@@ -4,9 +4,9 @@ use Rattle.std.specs.List.{AllByRecursion}
 use Rattle.std.proofs.{Common.ap, Common.sym, Common.◌∙◌, Common.subst, lemmas.Bool.true≢false, lemmas.Option.none-some}
 use Rattle.rls_value.specs.{declared.refusal.Refusal.Refusal, declared.refusal.Refusal.TheVariants.Undefined, declared.row.RowId.RowId, declared.value.Value.Value, Giving.and_then, declared.refusal.NameKind.NameKind, declared.verb.Privilege.Privilege, declared.verb.Kind.Kind}
 use Rattle.rls_expr.specs.declared.table.TableDef.{TableDef}
-use Rattle.rls_catalog.specs.{declared.change.Change.Change, declared.stored.Stored.Stored, Changed.changed, Changed.changed_all, InOrder.RowsInOrder, State.State, State.is_same_id, State.table_of, State.entries_of, SoundRows.AreSound, SoundRows.RowsAreSound}
+use Rattle.rls_guard.specs.rls_catalog.specs.{declared.change.Change.Change, declared.stored.Stored.Stored, Changed.changed, Changed.changed_all, InOrder.RowsInOrder, State.State, State.is_same_id, State.table_of, State.entries_of, SoundRows.AreSound, SoundRows.RowsAreSound}
 use Rattle.rls_statement.specs.{declared.changing.Delete.Delete, declared.changing.Update.Update, declared.statement.Insert.Insert, declared.statement.Select.Select, declared.statement.Selected.Selected}
-use Rattle.rls_source.specs.{Asked.table_at, Askings.known, Askings.followed_by, Named.found_or, Named.table_or_undefined}
+use Rattle.rls_guard.specs.rls_source.specs.{Asked.table_at, Askings.known, Askings.followed_by, Named.found_or, Named.table_or_undefined}
 use Rattle.rls_guard.specs.{declared.context.Ctx.Ctx, declared.reply.Decision.Decision, declared.role_privileges.RolePrivileges.RolePrivileges, RolePrivileges.role_privileges_of, Keeping.IfDone, Keeping.IsNoRow, Keeping.KeepsRowsSound, Keeping.KeepsTables, Keeping.LeavesRows, Keeping.TablesStay}
 use Rattle.rls_expansion.specs.{declared.expansion.PolicyExpansion.PolicyExpansion, Expanding.expansion_of, Expanding.permission_checks, Used.tables_if}
 use Rattle.rls_judging.specs.{ScannedRows.scanned_rows, Judging.decisions_of, Judging.qualifying_rows_of, Valuing.assignments_of, Valuing.tuples_of}

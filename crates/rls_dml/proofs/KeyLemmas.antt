@@ -5,9 +5,9 @@ use Rattle.rls_value.specs.declared.refusal.Refusal.{Refusal}
 use Rattle.rls_value.specs.declared.object.Object.{Object}
 use Rattle.rls_value.specs.declared.object.Object.TheVariants as o
 use Rattle.rls_value.specs.declared.value.Value.{Value}
-use Rattle.rls_catalog.specs.declared.stored.Stored.{Stored}
-use Rattle.rls_catalog.specs.State.{State}
-use Rattle.rls_source.specs.Readings.{unread, next_reads}
+use Rattle.rls_guard.specs.rls_catalog.specs.declared.stored.Stored.{Stored}
+use Rattle.rls_guard.specs.rls_catalog.specs.State.{State}
+use Rattle.rls_guard.specs.rls_source.specs.Readings.{unread, next_reads}
 use Rattle.rls_dml.specs.Writing.{keys_taken}
 
 none_next : {A B : Type 0} (given : Result A Refusal) (settle : A → Result B Refusal) → next_reads given (λ a. unread (settle a)) ≡ []

@@ -4,8 +4,8 @@ use Rattle.std.specs.BTreeSet.{BTreeSet, IsFromIterResult}
 use Rattle.std.specs.List.{list_any}
 use Rattle.std.specs.Ordering.{eq_by_cmp}
 use Rattle.rls_value.specs.declared.row.RowId.{RowId}
-use Rattle.rls_catalog.specs.declared.stored.Stored.{Stored}
-use Rattle.rls_catalog.specs.State.{id_order, is_same_id}
+use Rattle.rls_guard.specs.rls_catalog.specs.declared.stored.Stored.{Stored}
+use Rattle.rls_guard.specs.rls_catalog.specs.State.{id_order, is_same_id}
 use Rattle.rls_dml.specs.Numbers.{has_number, AreNumbers}
 
 numbered : (id : RowId) (rows : List Stored) → list_any (eq_by_cmp id_order id) (map (λ stored. stored.id) rows) ≡ has_number rows id

@@ -6,8 +6,8 @@ use Rattle.std.proofs.lemmas.Bool.{true≢false, eq-eqb, eqb-true, or_right}
 use Rattle.std.proofs.{lemmas.List.Elements.All-head, lemmas.List.Elements.All-tail, lemmas.List.Folds.list_any-append}
 use Rattle.rls_value.specs.{declared.refusal.Refusal.Refusal, declared.value.Value.Value, Giving.and_then, declared.refusal.Refusal.TheVariants.NotNull, declared.refusal.Refusal.TheVariants.Unique, Values.is_null, Values.value_at}
 use Rattle.rls_expr.specs.{declared.table.Column.Column, declared.table.TableDef.TableDef}
-use Rattle.rls_catalog.specs.{declared.stored.Stored.Stored, SoundRows.CarriesKey, SoundRows.takes_no_null, State.State, State.rows_of, State.rows_with_key, State.with_key}
-use Rattle.rls_source.specs.{Asked.keyed_at, Sequences.each_or_refused}
+use Rattle.rls_guard.specs.rls_catalog.specs.{declared.stored.Stored.Stored, SoundRows.CarriesKey, SoundRows.takes_no_null, State.State, State.rows_of, State.rows_with_key, State.with_key}
+use Rattle.rls_guard.specs.rls_source.specs.{Asked.keyed_at, Sequences.each_or_refused}
 use Rattle.rls_guard.specs.declared.reply.Decision.{Decision}
 use Rattle.rls_dml.specs.Writing.{constraints_or_refused, first_denial, has_doubles, has_values, is_whole, is_written, key_at, keys_of, keys_taken, order_of, rows_or_refused, stays_any, unless_denied, unwritten, value_or_not_null}
 use Rattle.rls_dml.proofs.WrittenLemmas.{keyed_of}

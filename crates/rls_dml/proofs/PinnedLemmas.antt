@@ -4,9 +4,9 @@ use Rattle.std.specs.{List.All, List.AllByRecursion, List.list_any}
 use Rattle.std.proofs.{Common.ap, Common.sym, Common.subst, Common.◌∙◌, lemmas.Bool.true≢false, lemmas.Bool.and_parts, lemmas.Bool.eqb-true, lemmas.Bool.or_left, lemmas.Bool.or_right, lemmas.Bool.Decides.Decides-int_eq, lemmas.List.Elements.All-head, lemmas.List.Elements.All-tail, lemmas.Option.none-some, lemmas.Option.same_Some}
 use Rattle.rls_value.specs.{declared.refusal.Refusal.Refusal, declared.row.RowId.RowId, Giving.and_then, declared.truth.Truth.Truth, declared.value.Value.Value, declared.truth.Truth.TheVariants.True, declared.truth.Truth.TheVariants.False, declared.truth.Truth.TheVariants.Unknown, Truths.is_true, Truths.truth_of, Truths.conjunction_of, Values.equal_values, Values.is_null, Values.same_flag, Values.truth_in, Values.value_at, Values.value_of_truth}
 use Rattle.rls_expr.specs.{declared.expr.Comparison.Comparison, declared.table.TableDef.TableDef, Terms.Term, Terms.Terms, Terms.Literal, Terms.Var, Terms.CurrentUser, Terms.Compare, Terms.And, Terms.End, Terms.More, Terms.maybe_term}
-use Rattle.rls_catalog.specs.{declared.stored.Stored.Stored, State.State, State.is_same_id, State.is_same_row, State.is_same_value, State.rows_of}
-use Rattle.rls_catalog.proofs.Walks.{bytes_own, bytes_same}
-use Rattle.rls_source.specs.{Asked.rows_at, Asked.keyed_at, Asked.asked_key, Askings.asked_if, Askings.known, Askings.followed_by}
+use Rattle.rls_guard.specs.rls_catalog.specs.{declared.stored.Stored.Stored, State.State, State.is_same_id, State.is_same_row, State.is_same_value, State.rows_of}
+use Rattle.rls_guard.specs.rls_catalog.proofs.Walks.{bytes_own, bytes_same}
+use Rattle.rls_guard.specs.rls_source.specs.{Asked.rows_at, Asked.keyed_at, Asked.asked_key, Askings.asked_if, Askings.known, Askings.followed_by}
 use Rattle.rls_evaluation.specs.Keys.{is_column, known_value, or_else, outer_value, pin_among, pin_by, pin_in, pin_of, pinned, with_pin}
 use Rattle.rls_evaluation.specs.{Environments.alone, Environments.over, Environments.row_at, Eval.Shows, Eval.and_value, Eval.meets, Eval.together, Eval.value_of}
 use Rattle.rls_judging.specs.ScannedRows.{scanned_rows, scanned_rows_with, pinned_key}

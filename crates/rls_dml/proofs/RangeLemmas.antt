@@ -5,9 +5,9 @@ use Rattle.std.proofs.{Common.arith, Common.ap, lemmas.Bool.leb-true}
 use Rattle.rls_value.specs.{declared.refusal.Refusal.Refusal, declared.refusal.Refusal.TheVariants.Limit, declared.value.Value.Value, Giving.and_then}
 use Rattle.rls_value.specs.declared.refusal.Limit.TheVariants as limit
 use Rattle.rls_expr.specs.{declared.table.Column.Column, declared.table.TableDef.TableDef}
-use Rattle.rls_catalog.specs.{declared.change.Change.Change, declared.stored.Stored.Stored, SoundRows.RowsAreSound, State.State}
+use Rattle.rls_guard.specs.rls_catalog.specs.{declared.change.Change.Change, declared.stored.Stored.Stored, SoundRows.RowsAreSound, State.State}
 use Rattle.rls_statement.specs.{declared.changing.Delete.Delete, declared.changing.Update.Update, declared.statement.Insert.Insert}
-use Rattle.rls_source.specs.{Askings.known, Askings.followed_by, Named.table_or_undefined}
+use Rattle.rls_guard.specs.rls_source.specs.{Askings.known, Askings.followed_by, Named.table_or_undefined}
 use Rattle.rls_guard.specs.{declared.context.Ctx.Ctx, Checks.is_unsupported, Keeping.IfDone}
 use Rattle.rls_dml.specs.{declared.analysed_insert.AnalysedInsert.AnalysedInsert, Deleting.delete, Deleting.deleted_row, NextRows.InRange, NextRows.new_rows, Updating.changed_rows, Updating.update, Checking.fitting_or_fault, Checking.supported_or_refused, Checking.returning_fits, Checking.returning_unsupported, Inserting.analysed_insert_for, Inserting.analysed_insert_in, Inserting.analysed_insert_named, Inserting.analysed_insert_or_refused, Inserting.analysed_insert_resolved, Inserting.insert, Inserting.insert_into, Inserting.inserted_row, Inserting.numbered, Inserting.places_of, Inserting.room_or_limit, Inserting.tuple_fits}
 use Rattle.rls_dml.proofs.{FittingLemmas.done_after, FittingLemmas.done_then, FittingLemmas.given_after, FittingLemmas.given_then, FittingLemmas.insert_into_done, KeepingLemmas.delete_holds, KeepingLemmas.update_holds}

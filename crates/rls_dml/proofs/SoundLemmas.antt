@@ -6,8 +6,8 @@ use Rattle.std.proofs.lemmas.Cmp.{tied_itself, nat_list_cmp_total}
 use Rattle.std.proofs.lemmas.List.Elements.{All-nil, All-cons}
 use Rattle.rls_value.specs.declared.row.RowId.{RowId}
 use Rattle.rls_expr.specs.declared.table.TableDef.{TableDef}
-use Rattle.rls_catalog.specs.{declared.change.Change.Change, declared.change.RowChange.RowChange, declared.stored.Keyed.Keyed, declared.stored.Stored.Stored, State.State, State.id_order, State.rows_of, State.table_of, State.entries_of, Changed.changed, Changed.changed_all, Changed.with_row, InOrder.Ascend, InOrder.RowsInOrder, SoundRows.AreSound, SoundRows.AreSoundIn, SoundRows.RowsAreSound, SoundRows.StandsAt}
-use Rattle.rls_catalog.proofs.{ContentsLaws.is_name, ContentsLaws.same_name, RowsChanged.entries_of_changed, InOrderLaws.none_ascend}
+use Rattle.rls_guard.specs.rls_catalog.specs.{declared.change.Change.Change, declared.change.RowChange.RowChange, declared.stored.Keyed.Keyed, declared.stored.Stored.Stored, State.State, State.id_order, State.rows_of, State.table_of, State.entries_of, Changed.changed, Changed.changed_all, Changed.with_row, InOrder.Ascend, InOrder.RowsInOrder, SoundRows.AreSound, SoundRows.AreSoundIn, SoundRows.RowsAreSound, SoundRows.StandsAt}
+use Rattle.rls_guard.specs.rls_catalog.proofs.{ContentsLaws.is_name, ContentsLaws.same_name, RowsChanged.entries_of_changed, InOrderLaws.none_ascend}
 use Rattle.rls_dml.specs.{Deleting.deleted_row, Inserting.inserted_row, Keys.CarryKeys, Updating.changed_rows, Writing.key_at}
 use Rattle.rls_dml.proofs.{FittingLemmas.rows_stand, WrittenLemmas.keyed_of, WrittenLemmas.with_rows, WrittenLemmas.without_rows}
 

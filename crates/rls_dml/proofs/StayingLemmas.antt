@@ -3,8 +3,8 @@ use Rattle.std.specs.Prelude.{◌≡◌, refl, ℕ, List, [], ◌∷◌, ◌++�
 use Rattle.std.proofs.Common.{ap, sym, ◌∙◌, append-nil}
 use Rattle.std.proofs.lemmas.Bool.{false≢true, and_parts, not_from_true, or_from, or_left, or_parts}
 use Rattle.rls_value.specs.{declared.object.Object.TheVariants.Key, declared.value.Value.Value, Giving.and_then}
-use Rattle.rls_catalog.specs.{declared.stored.Stored.Stored, State.State, State.is_same_id, State.is_same_row, State.rows_of}
-use Rattle.rls_source.specs.{Asked.keyed_at, Readings.Reading, Readings.next_reads, Readings.unread}
+use Rattle.rls_guard.specs.rls_catalog.specs.{declared.stored.Stored.Stored, State.State, State.is_same_id, State.is_same_row, State.rows_of}
+use Rattle.rls_guard.specs.rls_source.specs.{Asked.keyed_at, Readings.Reading, Readings.next_reads, Readings.unread}
 use Rattle.rls_dml.specs.{Numbers.are_numbered_as, Numbers.has_number, Writing.keys_read, Writing.keys_taken, Writing.stays_any}
 
 -- ---- rows with the numbers of those that are replaced

@@ -8,8 +8,8 @@ use Rattle.std.proofs.lemmas.Bool.{true≢false, not-false, or_left, or_right}
 use Rattle.std.proofs.{lemmas.Cmp.tied_itself, lemmas.Bool.Decides.Decides-int_eq, Math.Nat.suc-ne-zero, lemmas.Option.none-some, lemmas.Option.same_Some}
 use Rattle.rls_value.specs.{Listing.rows_total, declared.row.RowId.RowId, declared.value.Value.Value, Values.is_null, Values.listed, Values.value_at}
 use Rattle.rls_expr.specs.declared.table.TableDef.{TableDef}
-use Rattle.rls_catalog.specs.{declared.stored.Keyed.Keyed, declared.stored.Stored.Stored, InOrder.Ascend, SoundRows.AreSound, SoundRows.CarriesKey, SoundRows.StandsAt, State.id_order, State.is_same_id, State.is_same_row, State.is_same_value, State.stored_of, State.with_key}
-use Rattle.rls_catalog.proofs.Walks.{bytes_own}
+use Rattle.rls_guard.specs.rls_catalog.specs.{declared.stored.Keyed.Keyed, declared.stored.Stored.Stored, InOrder.Ascend, SoundRows.AreSound, SoundRows.CarriesKey, SoundRows.StandsAt, State.id_order, State.is_same_id, State.is_same_row, State.is_same_value, State.stored_of, State.with_key}
+use Rattle.rls_guard.specs.rls_catalog.proofs.Walks.{bytes_own}
 use Rattle.rls_dml.specs.{Numbers.has_number, Writing.is_among, Writing.is_whole, Writing.has_doubles, Writing.keys_of, Writing.stays_any}
 use Rattle.rls_dml.proofs.PutLemmas.{found, found_gone, found_put, gone_ascends, one_number, own_number, put_ascends}
 

@@ -4,13 +4,13 @@ use Rattle.std.specs.Prelude.{ℕ, List, [], ◌∷◌, ◌++◌, Some, None, Bo
 use Rattle.std.specs.Option.{option_to_list}
 use Rattle.rls_value.specs.{declared.refusal.Refusal.Refusal, Giving.and_then, declared.verb.Privilege.Privilege, declared.verb.Kind.Kind}
 use Rattle.rls_expr.specs.{declared.table.TableDef.TableDef, Scopes.InScope, Naming.Step, Resolving.Names}
-use Rattle.rls_catalog.specs.{declared.change.Change.Change, declared.stored.Stored.Stored}
-use Rattle.rls_catalog.specs.declared.change.Change.TheVariants as change
+use Rattle.rls_guard.specs.rls_catalog.specs.{declared.change.Change.Change, declared.stored.Stored.Stored}
+use Rattle.rls_guard.specs.rls_catalog.specs.declared.change.Change.TheVariants as change
 use Rattle.rls_statement.specs.declared.changing.Delete.{Delete}
 use Rattle.rls_guard.specs.{declared.context.Ctx.Ctx, declared.role_privileges.RolePrivileges.RolePrivileges, declared.effect.Effect.Effect, RolePrivileges.role_privileges_of, declared.reply.Decision.Decision, Naming.named, Naming.names_over}
 use Rattle.rls_expansion.specs.{declared.expansion.PolicyExpansion.PolicyExpansion, Used.tables_if, Expanding.expansion_of, Expanding.permission_checks}
 use Rattle.rls_guard.specs.declared.effect.Effect.TheVariants as effect
-use Rattle.rls_source.specs.{Askings.Asking, Askings.known, Askings.followed_by, Named.table_or_undefined}
+use Rattle.rls_guard.specs.rls_source.specs.{Askings.Asking, Askings.known, Askings.followed_by, Named.table_or_undefined}
 use Rattle.rls_dml.specs.{declared.deleting.AnalysedDelete.AnalysedDelete, Listings.reply_of, Writing.checks_of, Writing.permissions_or_denied, Checking.columns_read, Checking.has_some, Checking.returning_terms, Checking.returns_all, Checking.where_selected, Checking.where_names, Checking.returning_names, Checking.where_resolved, Checking.returning_resolved, Checking.where_fits, Checking.returning_fits, Checking.fitting_or_fault, Checking.where_unsupported, Checking.returning_unsupported, Checking.supported_or_refused}
 use Rattle.rls_judging.specs.{Judging.qualifying_rows_of, ScannedRows.scanned_rows}
 

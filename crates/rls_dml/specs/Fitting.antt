@@ -1,9 +1,9 @@
 -- What the changes of a statement have to do with the state that it is run in, and the places that they overwrite.
 use Rattle.std.specs.Prelude.{◌≡◌, ℕ, zero, suc, ◌≤◌, List, [], ◌∷◌, None, map}
 use Rattle.rls_value.specs.declared.row.RowId.{RowId}
-use Rattle.rls_catalog.specs.declared.change.Change.{Change}
-use Rattle.rls_catalog.specs.State.{State}
-use Rattle.rls_catalog.specs.Bases.{Row, base_of, row_at}
+use Rattle.rls_guard.specs.rls_catalog.specs.declared.change.Change.{Change}
+use Rattle.rls_guard.specs.rls_catalog.specs.State.{State}
+use Rattle.rls_guard.specs.rls_catalog.specs.Bases.{Row, base_of, row_at}
 pub use Rattle.rls_guard.specs.Keeping.{IfDone}
 
 -- no row of the table has a number of the transaction from this one on

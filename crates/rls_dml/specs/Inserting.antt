@@ -5,11 +5,11 @@ use Rattle.std.specs.List.{list_any, list_all}
 use Rattle.rls_value.specs.{declared.value.Value.Value, declared.value.Value.TheVariants.Null, declared.refusal.Refusal.Refusal, declared.refusal.Refusal.TheVariants.Limit, Giving.and_then, declared.verb.Privilege.Privilege, declared.verb.Kind.Kind}
 use Rattle.rls_value.specs.declared.refusal.Limit.TheVariants as limit
 use Rattle.rls_expr.specs.{declared.columns.SelectedTable.SelectedTable, Selecting.selected_of, declared.table.Column.Column, declared.table.TableDef.TableDef, Scopes.InScope, Resolving.Names, Terms.Term, Terms.terms_of, Naming.Step, Naming.names_all}
-use Rattle.rls_catalog.specs.{declared.change.Change.Change, declared.stored.Stored.Stored}
+use Rattle.rls_guard.specs.rls_catalog.specs.{declared.change.Change.Change, declared.stored.Stored.Stored}
 use Rattle.rls_statement.specs.{declared.statement.Insert.Insert, declared.statement.Selected.Selected}
 use Rattle.rls_guard.specs.{declared.context.Ctx.Ctx, declared.role_privileges.RolePrivileges.RolePrivileges, declared.reply.Decision.Decision, declared.effect.Effect.Effect, Checks.is_unsupported, RolePrivileges.role_privileges_of, Naming.named, Naming.names_over}
 use Rattle.rls_expansion.specs.{declared.expansion.PolicyExpansion.PolicyExpansion, Used.all_tables, Expanding.expansion_of, Expanding.permission_checks}
-use Rattle.rls_source.specs.{Askings.Asking, Askings.known, Askings.followed_by, Askings.settled, Sequences.each_of, Named.table_or_undefined}
+use Rattle.rls_guard.specs.rls_source.specs.{Askings.Asking, Askings.known, Askings.followed_by, Askings.settled, Sequences.each_of, Named.table_or_undefined}
 use Rattle.rls_dml.specs.{declared.analysed_insert.AnalysedInsert.AnalysedInsert, Listings.reply_of, Writing.checks_of, Writing.is_written, Writing.permissions_or_denied, Checking.columns_at, Checking.columns_read, Checking.has_some, Checking.returning_terms, Checking.returns_all, Writing.assigned, Writing.each_with, Writing.key_at, Writing.order_of, Writing.rows_or_refused, Checking.names_over_none, Checking.returning_names, Checking.resolved_in, Checking.returning_resolved, Checking.place_or_undefined, Checking.value_fits, Checking.returning_fits, Checking.fitting_or_fault, Checking.returning_unsupported, Checking.supported_or_refused}
 use Rattle.rls_judging.specs.{Judging.decisions_of, Valuing.tuples_of}
 

@@ -1,9 +1,9 @@
 -- The numbers of new rows: each statement of a transaction numbers its new rows on, and its changes tell how far.
 use Rattle.std.specs.Prelude.{◌≡◌, ℕ, suc, ◌≤◌, List, [], ◌∷◌, None, Bool, false, ◌+◌, if◌then◌else◌, is_none, filter, length}
 use Rattle.rls_value.specs.declared.row.RowId.{RowId}
-use Rattle.rls_catalog.specs.declared.change.Change.{Change}
-use Rattle.rls_catalog.specs.declared.change.Change.TheVariants as c
-use Rattle.rls_catalog.specs.State.{State}
+use Rattle.rls_guard.specs.rls_catalog.specs.declared.change.Change.{Change}
+use Rattle.rls_guard.specs.rls_catalog.specs.declared.change.Change.TheVariants as c
+use Rattle.rls_guard.specs.rls_catalog.specs.State.{State}
 use Rattle.rls_dml.specs.Fitting.{NumbersFree}
 
 -- the change puts a row where none was

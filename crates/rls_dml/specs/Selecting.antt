@@ -5,13 +5,13 @@ use Rattle.std.specs.Option.{option_to_list}
 use Rattle.rls_value.specs.{declared.refusal.Refusal.Refusal, Giving.and_then, declared.verb.Privilege.Privilege}
 use Rattle.rls_value.specs.declared.verb.Kind.TheVariants as kind
 use Rattle.rls_expr.specs.{declared.table.TableDef.TableDef, Scopes.InScope, Naming.Step, Resolving.Names}
-use Rattle.rls_catalog.specs.declared.stored.Stored.{Stored}
+use Rattle.rls_guard.specs.rls_catalog.specs.declared.stored.Stored.{Stored}
 use Rattle.rls_statement.specs.declared.statement.Select.{Select}
 use Rattle.rls_guard.specs.{declared.context.Ctx.Ctx, declared.role_privileges.RolePrivileges.RolePrivileges, declared.reply.Reply.TheVariants.Rows, declared.effect.Effect.Effect, RolePrivileges.role_privileges_of, declared.reply.Decision.Decision, Naming.named, Naming.names_over}
 use Rattle.rls_expansion.specs.{declared.expansion.PolicyExpansion.PolicyExpansion, Used.tables_if, Expanding.expansion_of, Expanding.permission_checks}
 use Rattle.rls_guard.specs.declared.effect.Effect.TheVariants as effect
 use Rattle.rls_dml.specs.{Writing.checks_of, Writing.permissions_or_denied, Checking.columns_read, Checking.selection_terms, Checking.selects_all, Checking.where_selected, declared.selecting.AnalysedSelect.AnalysedSelect, Listings.answered, Checking.selection_names, Checking.where_names, Checking.selection_resolved, Checking.where_resolved, Checking.selection_fits, Checking.where_fits, Checking.fitting_or_fault, Checking.selection_unsupported, Checking.where_unsupported, Checking.supported_or_refused}
-use Rattle.rls_source.specs.{Askings.Asking, Askings.known, Askings.followed_by, Named.table_or_undefined}
+use Rattle.rls_guard.specs.rls_source.specs.{Askings.Asking, Askings.known, Askings.followed_by, Named.table_or_undefined}
 use Rattle.rls_judging.specs.{Judging.qualifying_rows_of, ScannedRows.scanned_rows}
 
 -- what qualifies the columns: the alias or, without one, the table's name

@@ -5,12 +5,12 @@ use Rattle.std.specs.List.{list_any}
 use Rattle.std.specs.Option.{option_to_list}
 use Rattle.rls_value.specs.{declared.refusal.Refusal.Refusal, declared.value.Value.Value, Giving.and_then, declared.verb.Privilege.Privilege, declared.verb.Kind.Kind}
 use Rattle.rls_expr.specs.{declared.table.Column.Column, declared.table.TableDef.TableDef, declared.columns.SelectedTable.SelectedTable, Selecting.selected_of, Scopes.InScope, Resolving.Names, Terms.Term, Naming.Step, Naming.Look, Naming.names_of}
-use Rattle.rls_catalog.specs.{declared.change.Change.Change, declared.stored.Stored.Stored}
+use Rattle.rls_guard.specs.rls_catalog.specs.{declared.change.Change.Change, declared.stored.Stored.Stored}
 use Rattle.rls_statement.specs.{declared.changing.Assignment.Assignment, declared.changing.Update.Update}
 use Rattle.rls_guard.specs.{declared.context.Ctx.Ctx, declared.role_privileges.RolePrivileges.RolePrivileges, declared.reply.Decision.Decision, declared.effect.Effect.Effect, Support.is_unsupported, RolePrivileges.role_privileges_of, Naming.named, Naming.names_over}
 use Rattle.rls_expansion.specs.{declared.expansion.PolicyExpansion.PolicyExpansion, Expanding.expansion_of, Expanding.permission_checks, Used.all_tables, Used.tables_if}
 use Rattle.rls_guard.specs.declared.effect.Effect.TheVariants as effect
-use Rattle.rls_source.specs.{Askings.Asking, Askings.known, Askings.followed_by, Askings.settled, Sequences.each_of, Named.table_or_undefined}
+use Rattle.rls_guard.specs.rls_source.specs.{Askings.Asking, Askings.known, Askings.followed_by, Askings.settled, Sequences.each_of, Named.table_or_undefined}
 use Rattle.rls_dml.specs.{declared.analysed_update.AnalysedUpdate.AnalysedUpdate, Listings.reply_of, Writing.checks_of, Writing.is_written, Writing.permissions_or_denied, Checking.columns_at, Checking.columns_read, Checking.has_some, Checking.returning_terms, Checking.returns_all, Checking.where_selected, Writing.assigned, Writing.each_taking, Writing.key_at, Writing.order_of, Writing.rows_or_refused, Checking.where_names, Checking.returning_names, Checking.resolved_in, Checking.where_resolved, Checking.returning_resolved, Checking.place_or_undefined, Checking.value_fits, Checking.where_fits, Checking.returning_fits, Checking.fitting_or_fault, Checking.where_unsupported, Checking.returning_unsupported, Checking.supported_or_refused}
 use Rattle.rls_judging.specs.{Judging.qualifying_rows_of, Judging.decisions_of, Valuing.assignments_of, ScannedRows.scanned_rows}
 

@@ -6,11 +6,11 @@ use Rattle.std.specs.Cmp.Lexicographic.{slice_cmp}
 use Rattle.std.specs.Ordering.{is_eq, is_lt}
 use Rattle.rls_value.specs.{declared.value.Value.Value, declared.value.Value.TheVariants.Null, declared.verb.Kind.Kind, declared.verb.Privilege.Privilege, declared.object.Object.Object, declared.object.Object.TheVariants.Key, declared.refusal.Refusal.Refusal, Giving.and_then, declared.refusal.Refusal.TheVariants.NotNull, declared.refusal.Refusal.TheVariants.Unique, declared.refusal.Refusal.TheVariants.Denied, Values.is_null, Values.value_at, Values.listed, declared.refusal.Why.Why}
 use Rattle.rls_expr.specs.{declared.columns.SelectedTable.SelectedTable, declared.table.Column.Column}
-use Rattle.rls_catalog.specs.{declared.verdict.Verdict.Verdict, declared.stored.Stored.Stored}
-use Rattle.rls_catalog.specs.declared.verdict.Verdict.TheVariants as verdict
+use Rattle.rls_guard.specs.rls_catalog.specs.{declared.verdict.Verdict.Verdict, declared.stored.Stored.Stored}
+use Rattle.rls_guard.specs.rls_catalog.specs.declared.verdict.Verdict.TheVariants as verdict
 use Rattle.rls_guard.specs.{declared.reply.Decision.Decision, declared.permission_check.PermissionCheck.PermissionCheck, declared.role_privileges.RolePrivileges.RolePrivileges, RolePrivileges.permission_or_denied}
 use Rattle.rls_evaluation.specs.{Environments.assigned_value, Showing.allows}
-use Rattle.rls_source.specs.{Askings.Asking, Askings.known, Askings.followed_by, Asked.asked_key, Sequences.each_or_refused}
+use Rattle.rls_guard.specs.rls_source.specs.{Askings.Asking, Askings.known, Askings.followed_by, Asked.asked_key, Sequences.each_or_refused}
 use Rattle.rls_dml.specs.Checking.{has_some}
 use Rattle.rls_dml.specs.Numbers.{has_number}
 

@@ -4,7 +4,7 @@ ghost use Rattle.std.specs.Prelude.{◌≡◌, [], ◌∷◌, ◌++◌, ◌+◌,
 ghost use Rattle.std.specs.List.{list_any, list_all};
 ghost use Rattle.rls_value.specs.Giving.{Gives, and_then};
 ghost use Rattle.rls_expr.specs.{Naming.step_of, Resolving.names_in};
-ghost use Rattle.rls_source.specs.{Answering.Answers, Sequences.each_of};
+ghost use Rattle.rls_guard.specs.rls_source.specs.{Answering.Answers, Sequences.each_of};
 ghost use Rattle.rls_guard.specs.{Checks.is_unsupported, Naming.named, Naming.names_over};
 ghost use Rattle.rls_dml.specs.Checking.{place_or_undefined, names_over_none, returning_names, returning_resolved};
 ghost use Rattle.rls_dml.specs.Inserting as spec;
@@ -16,8 +16,8 @@ use crate::checking::{
 use rls_expr::{
     Column, Expr, NameStep, NamedTable, Scope, SelectedTable, TableDef, put_all_names, put_selected,
 };
+use rls_guard::rls_source::{Reads, RowSource};
 use rls_guard::{Ctx, Found, named};
-use rls_source::{Reads, RowSource};
 use rls_statement::{Insert, Selected};
 use rls_value::{Items, Limit, Name, Refusal};
 use std::alloc::{AllocError, Global};

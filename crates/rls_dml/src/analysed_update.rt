@@ -4,7 +4,7 @@ ghost use Rattle.std.specs.Prelude.{◌≡◌, [], ◌∷◌, ◌++◌, map, IfO
 ghost use Rattle.rls_value.specs.Giving.{Gives};
 ghost use Rattle.rls_expr.specs.{Naming.step_of, Resolving.names_in};
 ghost use Rattle.rls_guard.specs.Naming.{named, names_over};
-ghost use Rattle.rls_source.specs.{Answering.Answers, Sequences.each_of};
+ghost use Rattle.rls_guard.specs.rls_source.specs.{Answering.Answers, Sequences.each_of};
 ghost use Rattle.rls_dml.specs.{Checking.columns_at, Checking.returning_resolved, Checking.where_resolved, Writing.is_written};
 ghost use Rattle.rls_dml.specs.Updating as spec;
 
@@ -19,8 +19,8 @@ use rls_expr::{
     Column, Expr, NameStep, NamedTable, Scope, SelectedTable, TableDef, put_names, put_names_if,
     put_selected, put_step, resolve_columns,
 };
+use rls_guard::rls_source::{Reads, RowSource};
 use rls_guard::{Found, is_unsupported_with, named_over};
-use rls_source::{Reads, RowSource};
 use rls_statement::{Assignment, Selected, Update};
 use rls_value::{Items, Name, Refusal};
 use std::alloc::{AllocError, Global};

@@ -2,7 +2,7 @@
 
 ghost use Rattle.std.specs.Prelude.{ℕ, List, Ok, length, map};
 ghost use Rattle.rls_expr.specs.declared.table.TableDef.{TableDef};
-ghost use Rattle.rls_catalog.specs.{declared.stored.Stored.Stored, Bases.FitsAll, InOrder.RowsInOrder, State.State};
+ghost use Rattle.rls_guard.specs.rls_catalog.specs.{declared.stored.Stored.Stored, Bases.FitsAll, InOrder.RowsInOrder, State.State};
 ghost use Rattle.rls_statement.specs.{declared.changing.Delete.Delete, declared.changing.Update.Update, declared.statement.Insert.Insert};
 ghost use Rattle.rls_guard.specs.{declared.context.Ctx.Ctx, declared.reply.Decision.Decision};
 ghost use Rattle.rls_expansion.specs.declared.expansion.PolicyExpansion.{PolicyExpansion};

@@ -1,15 +1,15 @@
 //! What row security says of rows through a statement's policy expansion.
 
-ghost use Rattle.rls_source.specs.Answering.{Tells};
+ghost use Rattle.rls_guard.specs.rls_source.specs.Answering.{Tells};
 ghost use Rattle.rls_judging.specs.Handed.{items_now, judged_now};
 ghost use Rattle.rls_judging.specs.Judging as spec;
 
-use rls_catalog::{BorrowedRow, Stored};
 use rls_expansion::PolicyExpansion;
 use rls_expr::Expr;
 use rls_guard::Decision;
+use rls_guard::rls_catalog::{BorrowedRow, Stored};
+use rls_guard::rls_source::{Reads, RowSource};
 use rls_judging::{CheckContext, judged, qualifying_rows_of};
-use rls_source::{Reads, RowSource};
 use rls_value::{Items, Name};
 use std::alloc::{AllocError, Global};
 

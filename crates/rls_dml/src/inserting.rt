@@ -2,7 +2,7 @@
 
 ghost use Rattle.std.specs.Prelude.{◌≡◌, ◌+◌, ◌≤◌, [], ◌∷◌, None, length, map, take, IfOk};
 ghost use Rattle.rls_value.specs.Giving.{Gives};
-ghost use Rattle.rls_source.specs.Answering.{Answers, Tells};
+ghost use Rattle.rls_guard.specs.rls_source.specs.Answering.{Answers, Tells};
 ghost use Rattle.rls_dml.specs.{Listings.reply_of as spec_reply_of, Checking.columns_at, Checking.has_some as spec_has_some, Writing.assigned, Writing.checks_of, Writing.each_with, Writing.rows_or_refused, Writing.order_of as spec_order_of};
 ghost use Rattle.rls_evaluation.specs.Scoping.{datum_value};
 ghost use Rattle.rls_expansion.specs.Expanding.{expansion_of, permission_checks};
@@ -18,13 +18,13 @@ use crate::replying::reply_of_new;
 use crate::writing::{
     assign, behind_first, checks_of, first_of, is_written, order_of, require_all, require_rows,
 };
-use rls_catalog::{Change, Delta, Keyed, RowChange, Stored};
 use rls_evaluation::Datum;
 use rls_expansion::{PolicyExpansion, expansion_of, put_all_tables};
 use rls_expr::{Column, Expr, FromTable, TableDef, put_if};
+use rls_guard::rls_catalog::{Change, Delta, Keyed, RowChange, Stored};
+use rls_guard::rls_source::{Reads, RowSource, table_named};
 use rls_guard::{Ctx, Decision, Effect, PermissionCheck, RolePrivileges, role_privileges_of};
 use rls_judging::tuples_of;
-use rls_source::{Reads, RowSource, table_named};
 use rls_statement::{Insert, Selected};
 use rls_value::{Items, Kind, Name, Privilege, Refusal, Row, RowId, Value};
 use std::alloc::{AllocError, Global};

@@ -4,7 +4,7 @@ ghost use Rattle.std.specs.Prelude.{◌≡◌, [], map, IfOk};
 ghost use Rattle.rls_dml.specs.Numbers as spec;
 ghost use Rattle.rls_dml.specs.Numbers.{has_number, AreNumbers};
 
-use rls_catalog::BorrowedRow;
+use rls_guard::rls_catalog::BorrowedRow;
 use rls_value::RowId;
 use std::alloc::{AllocError, Global};
 use std::collections::BTreeSet;
@@ -19,7 +19,7 @@ pub struct Replaced<'r, 'c> {
 
 impl<'r, 'c> Model for Replaced<'r, 'c> {
     ghost use Rattle.std.specs.Prelude.{List, map};
-    ghost use Rattle.rls_catalog.specs.declared.stored.Stored.{Stored as Seen};
+    ghost use Rattle.rls_guard.specs.rls_catalog.specs.declared.stored.Stored.{Stored as Seen};
 
     ghost Value = { List Seen };
 
@@ -73,7 +73,7 @@ pub struct Numbers<'r, 'c> {
 
 impl<'r, 'c> Model for Numbers<'r, 'c> {
     ghost use Rattle.std.specs.Prelude.{List, map};
-    ghost use Rattle.rls_catalog.specs.declared.stored.Stored.{Stored as Seen};
+    ghost use Rattle.rls_guard.specs.rls_catalog.specs.declared.stored.Stored.{Stored as Seen};
     ghost use Rattle.rls_dml.specs.Numbers.{AreNumbers};
 
     ghost Value = { List Seen };

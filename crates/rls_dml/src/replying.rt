@@ -4,10 +4,10 @@ ghost use Rattle.std.specs.Prelude.{◌≡◌, [], ◌∷◌, map, IfOk};
 ghost use Rattle.rls_dml.specs.Listings as spec;
 
 use crate::listing::listing_of;
-use rls_catalog::{BorrowedRow, Stored};
 use rls_evaluation::value_over;
 use rls_expr::Expr;
 use rls_guard::Reply;
+use rls_guard::rls_catalog::{BorrowedRow, Stored};
 use rls_statement::Selected;
 use rls_value::shared::Share;
 use rls_value::{Items, Name, Row, Value};

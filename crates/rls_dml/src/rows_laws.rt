@@ -2,8 +2,8 @@
 
 ghost use Rattle.std.specs.Prelude.{◌≡◌, ℕ, List, Some};
 ghost use Rattle.rls_expr.specs.declared.table.TableDef.{TableDef};
-ghost use Rattle.rls_catalog.specs.{declared.change.Change.Change, Bases.FitsAll, Changed.changed_all, SoundRows.RowsAreSound, InOrder.RowsInOrder};
-ghost use Rattle.rls_catalog.specs.State.{State, rows_of, table_of};
+ghost use Rattle.rls_guard.specs.rls_catalog.specs.{declared.change.Change.Change, Bases.FitsAll, Changed.changed_all, SoundRows.RowsAreSound, InOrder.RowsInOrder};
+ghost use Rattle.rls_guard.specs.rls_catalog.specs.State.{State, rows_of, table_of};
 ghost use Rattle.rls_statement.specs.{declared.changing.Delete.Delete, declared.changing.Update.Update, declared.statement.Insert.Insert, declared.statement.Select.Select};
 ghost use Rattle.rls_guard.specs.Keeping.{IfDone, KeepsRowsSound, KeepsTables, LeavesRows};
 ghost use Rattle.rls_guard.specs.declared.context.Ctx.{Ctx};

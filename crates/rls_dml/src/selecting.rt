@@ -4,7 +4,7 @@ ghost use Rattle.std.specs.Prelude.{◌≡◌, [], ◌∷◌, false, map, IfOk};
 ghost use Rattle.rls_value.specs.Giving.{Gives};
 ghost use Rattle.rls_expr.specs.Naming.{step_of};
 ghost use Rattle.rls_guard.specs.Naming.{named, names_over};
-ghost use Rattle.rls_source.specs.Answering.{Answers, Tells};
+ghost use Rattle.rls_guard.specs.rls_source.specs.Answering.{Answers, Tells};
 ghost use Rattle.rls_expansion.specs.{Expanding.expansion_of, Expanding.permission_checks, Used.tables_if};
 ghost use Rattle.rls_dml.specs.{Checking.selection_resolved, Checking.where_resolved, Checking.where_selected as spec_where_selected, Writing.checks_of};
 ghost use Rattle.rls_dml.specs.Selecting as spec;
@@ -17,14 +17,14 @@ use crate::checking::{
 use crate::checking_rows::qualifying_rows_under;
 use crate::replying::{listed_reply, standing_rows};
 use crate::writing::{checks_of, require_all};
-use rls_catalog::{BorrowedRow, Delta};
 use rls_expansion::{PolicyExpansion, expansion_of};
 use rls_expr::{Expr, FromTable, NameStep, NamedTable, Scope, TableDef, put_names_if};
+use rls_guard::rls_catalog::{BorrowedRow, Delta};
+use rls_guard::rls_source::{Reads, RowSource, table_named};
 use rls_guard::{
     Ctx, Decision, Effect, Found, PermissionCheck, RolePrivileges, named_over, role_privileges_of,
 };
 use rls_judging::scanned_rows;
-use rls_source::{Reads, RowSource, table_named};
 use rls_statement::{Select, Selected};
 use rls_value::{Items, Kind, Name, Privilege, Refusal, Row};
 use std::alloc::{AllocError, Global};

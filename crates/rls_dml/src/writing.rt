@@ -4,18 +4,18 @@ ghost use Rattle.std.specs.Prelude.{◌≡◌, [], ◌∷◌, ◌++◌, OnOk, ma
 ghost use Rattle.rls_value.specs.{Giving.Gives, Values.is_null, Values.value_at};
 ghost use Rattle.rls_evaluation.specs.Scoping.{datum_value};
 ghost use Rattle.rls_judging.specs.Handed.{datum_values};
-ghost use Rattle.rls_source.specs.{Answering.Answers, Sequences.each_or_refused};
+ghost use Rattle.rls_guard.specs.rls_source.specs.{Answering.Answers, Sequences.each_or_refused};
 ghost use Rattle.rls_dml.specs.Checking.{columns_at};
 ghost use Rattle.rls_dml.specs.Writing as spec;
 
 use crate::checking::has_some;
 use crate::keys::require_unique;
 use crate::replaced::Replaced;
-use rls_catalog::{Stored, Verdict};
 use rls_evaluation::{Datum, allows};
 use rls_expr::{Column, FromTable, SelectedTable, copies, put_if};
+use rls_guard::rls_catalog::{Stored, Verdict};
+use rls_guard::rls_source::{Reads, RowSource};
 use rls_guard::{Decision, PermissionCheck, RolePrivileges};
-use rls_source::{Reads, RowSource};
 use rls_value::{Items, Name, Privilege, Refusal, Row, Value, Why};
 use std::alloc::{AllocError, Global};
 

@@ -12,7 +12,7 @@ use Rattle.rls_source.specs.{Askings.Asking, Footprints.with_object, Footprints.
 use Rattle.rls_source.proofs.FootprintOrderLaws.{with_object_in_order}
 use Rattle.rls_evaluation.specs.declared.cached_subplan.Answer.TheVariants.{Is, Items, First}
 use Rattle.rls_evaluation.specs.{declared.relation.SecuredRelation.SecuredRelation, declared.cached_subplan.Answer.Answer, declared.cached_subplan.CachedSubplan.CachedSubplan, declared.execution_state.CachedRows.CachedRows, declared.execution_state.ExecutionState.ExecutionState, CachedIndexes.AreIndexed, CachedIndexes.IsIndexed, CachedSubplans.IsAnswer, CachedSubplans.IsCached, CachedSubplans.IsKnown, CachedSubplans.AreCached, Environments.Environment, Eval.Shows, Eval.first_item, Eval.has_row, Items.items_seen, Showing.shows, Holding.IsKept, Holding.Holds, Holding.Evaluates, Holding.at_place, Holding.found_in, Holding.shown_at}
-use Rattle.rls_expr.specs.{ExprTerms.query_of, Terms.Query}
+use Rattle.rls_source.specs.rls_catalog.specs.rls_expr.specs.{ExprTerms.query_of, Terms.Query}
 
 below_none : (x y : Object) (objects : List Object) → object_order x y ≡ Less → AllByRecursion (λ z. object_order y z ≡ Less) objects → is_among objects x ≡ false
 below_none x y [] is all = refl

@@ -11,7 +11,7 @@ use Rattle.std.proofs.Math.Seq.{get_or-append_seam}
 use Rattle.std.specs.declared.alloc.AllocError.{AllocError}
 use Rattle.rls_value.specs.{declared.value.Value.Value, declared.truth.Truth.Truth, declared.object.Object.Object, Values.listed, Giving.and_then}
 use Rattle.rls_value.proofs.ListingLaws.{rows_same}
-use Rattle.rls_expr.specs.{ExprTerms.query_of, Terms.Query}
+use Rattle.rls_source.specs.rls_catalog.specs.rls_expr.specs.{ExprTerms.query_of, Terms.Query}
 use Rattle.rls_verdict.specs.rls_catalog.specs.State.{State}
 use Rattle.rls_source.specs.{Footprints.with_reads, Footprints.IsInOrder, Readings.next_reads, Readings.unread, Askings.Asking, Askings.known, Askings.followed_by}
 use Rattle.rls_evaluation.specs.declared.cached_subplan.Answer.TheVariants.{Is, Items, First}

@@ -3,7 +3,7 @@ use Rattle.std.specs.Prelude.{◌≡◌, refl, ℕ, List, [], ◌∷◌, ◌++�
 use Rattle.std.proofs.Common.{ap, ◌∙◌, append-nil}
 use Rattle.rls_value.specs.{declared.value.Value.Value, declared.truth.Truth.Truth, declared.object.Object.Object, declared.refusal.Refusal.Refusal}
 use Rattle.rls_value.specs.{declared.truth.Truth.TheVariants.True, declared.truth.Truth.TheVariants.False, declared.truth.Truth.TheVariants.Unknown, Values.truth_in, Values.value_of_truth}
-use Rattle.rls_expr.specs.{declared.policy.Policy.Policy, Terms.Term}
+use Rattle.rls_source.specs.rls_catalog.specs.rls_expr.specs.{declared.policy.Policy.Policy, Terms.Term}
 use Rattle.rls_verdict.specs.rls_catalog.specs.{State.State, declared.verdict.Verdict.Verdict}
 use Rattle.rls_verdict.specs.rls_catalog.specs.Verdict.{is_such, names_where, lesser, least, verdict_by}
 use Rattle.rls_source.specs.{Readings.unread, Readings.read_then, Askings.Asking, Askings.known, Askings.followed_by}

@@ -5,7 +5,7 @@ use Rattle.std.proofs.lemmas.List.{drop_all, take_all}
 use native.Mathlib.Numerals.{unary_clauses}
 use Rattle.rls_value.specs.{declared.value.Value.Value, declared.object.Object.Object, declared.truth.Truth.Truth, declared.truth.Truth.TheVariants.True, declared.truth.Truth.TheVariants.False, declared.truth.Truth.TheVariants.Unknown, Truths.conjunction_of, Truths.disjunction_of}
 use Rattle.std.specs.declared.alloc.AllocError.{AllocError}
-use Rattle.rls_expr.specs.{declared.expr.Sign.Sign, declared.expr.Sign.TheVariants.Plus, declared.policy.Policy.Policy, Terms.Term, Terms.More, Terms.terms_of}
+use Rattle.rls_source.specs.rls_catalog.specs.rls_expr.specs.{declared.expr.Sign.Sign, declared.expr.Sign.TheVariants.Plus, declared.policy.Policy.Policy, Terms.Term, Terms.More, Terms.terms_of}
 use Rattle.rls_verdict.specs.rls_catalog.specs.State.{State}
 use Rattle.rls_source.specs.Askings.{Asking, followed_by}
 use Rattle.rls_evaluation.specs.{Items.with_item, Keys.or_else, Holding.Evaluates, Environments.Environment, Environments.joined, Environments.number_or_null, Gathering.gathered, Gathering.with_row}

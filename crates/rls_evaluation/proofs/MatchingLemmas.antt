@@ -9,9 +9,9 @@ use Rattle.std.specs.declared.cmp.Ordering.TheVariants.{Less, Equal, Greater}
 use Rattle.rls_value.specs.{declared.refusal.Refusal.Refusal, declared.object.Object.Object, declared.value.Value.Value, declared.truth.Truth.Truth, Values.equal_values, Values.is_null, Values.listed, Values.truth_in, Values.value_at, Values.value_of_truth, Truths.conjunction_of, Truths.is_true}
 use Rattle.rls_value.specs.declared.value.Value.TheVariants.{Null, Int, Text, Bool as Flag}
 use Rattle.rls_value.specs.declared.truth.Truth.TheVariants.{True, False, Unknown}
-use Rattle.rls_expr.specs.declared.expr.Comparison.TheVariants as c
-use Rattle.rls_expr.specs.Parts.{has_query, have_query}
-use Rattle.rls_expr.specs.Terms.{Term, Terms, Literal, Column, Var, CurrentUser, Compare, And, Or, Not, IsNull, IsNotNull, InList, NotInList, Exists, InSubquery, NotInSubquery, Scalar, Sum, End, More}
+use Rattle.rls_source.specs.rls_catalog.specs.rls_expr.specs.declared.expr.Comparison.TheVariants as c
+use Rattle.rls_source.specs.rls_catalog.specs.rls_expr.specs.Parts.{has_query, have_query}
+use Rattle.rls_source.specs.rls_catalog.specs.rls_expr.specs.Terms.{Term, Terms, Literal, Column, Var, CurrentUser, Compare, And, Or, Not, IsNull, IsNotNull, InList, NotInList, Exists, InSubquery, NotInSubquery, Scalar, Sum, End, More}
 use Rattle.rls_verdict.specs.rls_catalog.specs.State.{State}
 use Rattle.rls_source.specs.{Readings.unread, Readings.read_then, Askings.Asking}
 use Rattle.rls_evaluation.specs.{Environments.Environment, Environments.inside, Environments.row_at, Environments.compared, Gathering.gathered, Plain.IsPlainly}

@@ -3,7 +3,7 @@ use Rattle.std.specs.Prelude.{◌≡◌, refl, List, Bool, false, Some, None, Re
 use Rattle.std.proofs.Common.{ap, sym, ◌∙◌}
 use Rattle.std.specs.declared.alloc.AllocError.{AllocError}
 use Rattle.rls_value.specs.{declared.value.Value.Value, declared.object.Object.Object}
-use Rattle.rls_expr.specs.Terms.{Terms}
+use Rattle.rls_source.specs.rls_catalog.specs.rls_expr.specs.Terms.{Terms}
 use Rattle.rls_verdict.specs.rls_catalog.specs.State.{State}
 use Rattle.rls_source.specs.{Askings.Asking, Askings.asked_if, Askings.followed_by, Askings.known, Footprints.with_reads, Readings.read_then, Readings.unread}
 use Rattle.rls_evaluation.specs.{Environments.Environment, Eval.item_if, Gathering.gathered, Holding.Evaluates, Holding.Narrows, Matching.IsUnmet, Matching.LeavesOut}

@@ -3,8 +3,8 @@ use Rattle.std.specs.Prelude.{◌≡◌, refl, ℕ, zero, suc, nat_eq, Bool, tru
 use Rattle.std.proofs.Common.{arith, ap, sym, ◌∙◌, append_assoc}
 use Rattle.std.proofs.lemmas.Bool.{and_parts, true≢false}
 use Rattle.rls_value.specs.{declared.refusal.Refusal.Refusal, declared.object.Object.Object, declared.value.Value.Value, declared.truth.Truth.Truth, Giving.and_then, declared.value.Value.TheVariants.Null, declared.value.Value.TheVariants.Text, declared.value.Value.TheVariants.Bool as Flag, declared.truth.Truth.TheVariants.True, declared.truth.Truth.TheVariants.False, Truths.negation_of, Truths.is_true, Values.value_of_truth, Values.truth_in, Values.is_null, Values.value_at}
-use Rattle.rls_expr.specs.declared.expr.Comparison.TheVariants as c
-use Rattle.rls_expr.specs.Terms.{Term, Terms, Query, Literal, Column, Var, CurrentUser, Compare, And, Or, Not, IsNull, IsNotNull, InList, NotInList, Exists, InSubquery, NotInSubquery, Scalar, Sum, End, More, Select}
+use Rattle.rls_source.specs.rls_catalog.specs.rls_expr.specs.declared.expr.Comparison.TheVariants as c
+use Rattle.rls_source.specs.rls_catalog.specs.rls_expr.specs.Terms.{Term, Terms, Query, Literal, Column, Var, CurrentUser, Compare, And, Or, Not, IsNull, IsNotNull, InList, NotInList, Exists, InSubquery, NotInSubquery, Scalar, Sum, End, More, Select}
 use Rattle.rls_verdict.specs.rls_catalog.specs.State.{State}
 use Rattle.rls_source.specs.{Readings.Reading, Readings.unread, Readings.next_reads, Readings.read_then, Askings.Asking, Askings.known, Askings.followed_by, Askings.asked_if}
 use Rattle.rls_evaluation.specs.declared.outer_columns.OuterColumn.{OuterColumn}

@@ -3,8 +3,8 @@ use Rattle.std.specs.Prelude.{◌≡◌, Ok}
 use Rattle.std.proofs.Common.{ap, ◌∙◌}
 use Rattle.rls_value.specs.declared.value.Value.{Value}
 use Rattle.rls_value.specs.Values.{value_of_truth}
-use Rattle.rls_expr.specs.declared.expr.Comparison.{Comparison}
-use Rattle.rls_expr.specs.Terms.{Term, Compare}
+use Rattle.rls_source.specs.rls_catalog.specs.rls_expr.specs.declared.expr.Comparison.{Comparison}
+use Rattle.rls_source.specs.rls_catalog.specs.rls_expr.specs.Terms.{Term, Compare}
 use Rattle.rls_source.specs.Readings.{unread, read_then}
 use Rattle.rls_evaluation.specs.Environments.{Environment, compared}
 use Rattle.rls_evaluation.specs.Eval.{value_of}

@@ -4,7 +4,7 @@ use Rattle.std.specs.Str.{bytes_eq}
 use Rattle.std.proofs.Common.{arith, ap, sym, ◌∙◌}
 use Rattle.std.proofs.lemmas.Bool.{true≢false}
 use Rattle.rls_value.specs.declared.value.Value.{Value}
-use Rattle.rls_expr.specs.{declared.policy.Policy.Policy, Terms.Term, Terms.term_size}
+use Rattle.rls_source.specs.rls_catalog.specs.rls_expr.specs.{declared.policy.Policy.Policy, Terms.Term, Terms.term_size}
 use Rattle.rls_verdict.specs.rls_catalog.specs.State.{State}
 use Rattle.rls_source.specs.Readings.{Reading, unread}
 use Rattle.rls_evaluation.specs.declared.relation.SecuredRelation.{SecuredRelation}

@@ -2,7 +2,7 @@
 use Rattle.std.specs.Prelude.{◌≡◌, ℕ, ◌<◌, List, Bool, true, Option, Some, None, Ok, cond, drop, length, get_or}
 use Rattle.std.specs.{BTreeMap.is_at, List.All, Map.lookup, Cmp.Lexicographic.slice_cmp}
 use Rattle.rls_value.specs.{declared.value.Value.Value, declared.object.Object.Object, declared.truth.Truth.Truth, Values.listed}
-use Rattle.rls_expr.specs.{ExprTerms.query_of, Terms.Query}
+use Rattle.rls_source.specs.rls_catalog.specs.rls_expr.specs.{ExprTerms.query_of, Terms.Query}
 use Rattle.rls_verdict.specs.rls_catalog.specs.State.{State}
 use Rattle.rls_source.specs.{Footprints.with_reads, Askings.Asking}
 use Rattle.rls_evaluation.specs.{declared.relation.SecuredRelation.SecuredRelation, declared.cached_subplan.CachedSubplan.CachedSubplan, declared.cached_subplan.Asks.Asks, declared.cached_subplan.Answer.Answer, declared.value_set.ValueSet.ValueSet}

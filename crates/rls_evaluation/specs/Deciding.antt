@@ -2,8 +2,8 @@
 use Rattle.std.specs.Prelude.{◌≡◌, ℕ, List, Bool, Option, Some, Ok, if◌then◌else◌}
 use Rattle.rls_value.specs.declared.value.Value.{Value}
 use Rattle.rls_value.specs.declared.truth.Truth.{Truth}
-use Rattle.rls_expr.specs.declared.policy.Policy.{Policy}
-use Rattle.rls_expr.specs.Terms.{Term}
+use Rattle.rls_source.specs.rls_catalog.specs.rls_expr.specs.declared.policy.Policy.{Policy}
+use Rattle.rls_source.specs.rls_catalog.specs.rls_expr.specs.Terms.{Term}
 use Rattle.rls_verdict.specs.rls_catalog.specs.State.{State}
 use Rattle.rls_verdict.specs.rls_catalog.specs.Verdict.{is_such, lesser, verdict_by}
 use Rattle.rls_source.specs.Readings.{unread}

@@ -3,9 +3,9 @@ use Rattle.std.specs.Prelude.{ℕ, ℤ, ◌+ℤ◌, ◌-ℤ◌, List, [], ◌∷
 use Rattle.rls_value.specs.{declared.refusal.Refusal.Refusal, declared.refusal.Refusal.TheVariants.Range, declared.value.Value.Value, declared.truth.Truth.Truth, Truths.negation_of}
 use Rattle.rls_value.specs.declared.value.Value.TheVariants.{Null, Int}
 use Rattle.rls_value.specs.Values.{equal_values, less_values, fits_type}
-use Rattle.rls_expr.specs.{declared.expr.Comparison.Comparison, declared.expr.Sign.Sign, declared.table.Column.Column as ColumnOf}
-use Rattle.rls_expr.specs.declared.expr.Comparison.TheVariants as c
-use Rattle.rls_expr.specs.declared.expr.Sign.TheVariants.{Plus, Minus}
+use Rattle.rls_source.specs.rls_catalog.specs.rls_expr.specs.{declared.expr.Comparison.Comparison, declared.expr.Sign.Sign, declared.table.Column.Column as ColumnOf}
+use Rattle.rls_source.specs.rls_catalog.specs.rls_expr.specs.declared.expr.Comparison.TheVariants as c
+use Rattle.rls_source.specs.rls_catalog.specs.rls_expr.specs.declared.expr.Sign.TheVariants.{Plus, Minus}
 
 -- what a term is evaluated in: the current role, and the rows in scope, the innermost first
 pub record Environment : Type 0 where

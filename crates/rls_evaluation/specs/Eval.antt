@@ -7,8 +7,8 @@ use Rattle.rls_value.specs.declared.value.Value.TheVariants.{Null, Text, Bool as
 use Rattle.rls_value.specs.declared.truth.Truth.TheVariants.{True, False}
 use Rattle.rls_value.specs.Truths.{conjunction_of, disjunction_of, negation_of, is_true}
 use Rattle.rls_value.specs.Values.{equal_values, value_of_truth, truth_in, is_null, value_at}
-use Rattle.rls_expr.specs.declared.expr.Sign.{Sign}
-use Rattle.rls_expr.specs.Terms.{Term, Terms, Query, Literal, Column, Var, CurrentUser, Compare, And, Or, Not, IsNull, IsNotNull, InList, NotInList, Exists, InSubquery, NotInSubquery, Scalar, Sum, End, More, Select}
+use Rattle.rls_source.specs.rls_catalog.specs.rls_expr.specs.declared.expr.Sign.{Sign}
+use Rattle.rls_source.specs.rls_catalog.specs.rls_expr.specs.Terms.{Term, Terms, Query, Literal, Column, Var, CurrentUser, Compare, And, Or, Not, IsNull, IsNotNull, InList, NotInList, Exists, InSubquery, NotInSubquery, Scalar, Sum, End, More, Select}
 use Rattle.rls_source.specs.Askings.{Asking, known, asked_if, followed_by}
 use Rattle.rls_evaluation.specs.Environments.{Environment, inside, row_at, compared, joined, number_or_null}
 use Rattle.rls_evaluation.specs.{Gathering.gathered, Keys.key_of}

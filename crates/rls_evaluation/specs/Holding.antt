@@ -9,7 +9,7 @@ use Rattle.rls_verdict.specs.rls_catalog.specs.State.{State}
 use Rattle.rls_source.specs.Footprints.{with_reads, IsInOrder}
 use Rattle.rls_source.specs.Askings.{Asking, known}
 use Rattle.rls_evaluation.specs.{declared.relation.SecuredRelation.SecuredRelation, declared.execution_state.CachedRows.CachedRows, declared.execution_state.ExecutionState.ExecutionState, CachedIndexes.AreIndexed, CachedSubplans.AreCached}
-use Rattle.rls_expr.specs.Terms.{Terms}
+use Rattle.rls_source.specs.rls_catalog.specs.rls_expr.specs.Terms.{Terms}
 use Rattle.rls_evaluation.specs.{Environments.Environment, Matching.IsUnmet, Matching.LeavesOut}
 use Rattle.rls_evaluation.specs.Showing.{asked_for, shown_first}
 

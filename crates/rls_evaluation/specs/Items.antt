@@ -5,7 +5,7 @@ use Rattle.rls_value.specs.declared.truth.Truth.{Truth}
 use Rattle.rls_value.specs.declared.truth.Truth.TheVariants.{False}
 use Rattle.rls_value.specs.Truths.{disjunction_of}
 use Rattle.rls_value.specs.Values.{equal_values}
-use Rattle.rls_expr.specs.Terms.{Query, Select}
+use Rattle.rls_source.specs.rls_catalog.specs.rls_expr.specs.Terms.{Query, Select}
 use Rattle.rls_source.specs.Askings.{Asking, followed_by}
 use Rattle.rls_evaluation.specs.Environments.{Environment, inside}
 use Rattle.rls_evaluation.specs.Gathering.{gathered}

@@ -4,8 +4,8 @@ use Rattle.std.specs.Prelude.{ℕ, zero, suc, nat_eq, List, [], ◌∷◌, Bool,
 use Rattle.rls_value.specs.declared.value.Value.{Value}
 use Rattle.rls_value.specs.declared.value.Value.TheVariants.{Text}
 use Rattle.rls_value.specs.Values.{value_at}
-use Rattle.rls_expr.specs.declared.expr.Comparison.TheVariants.{Equal}
-use Rattle.rls_expr.specs.Terms.{Term, Terms, Literal, Var, CurrentUser, Compare, And, End, More}
+use Rattle.rls_source.specs.rls_catalog.specs.rls_expr.specs.declared.expr.Comparison.TheVariants.{Equal}
+use Rattle.rls_source.specs.rls_catalog.specs.rls_expr.specs.Terms.{Term, Terms, Literal, Var, CurrentUser, Compare, And, End, More}
 use Rattle.rls_evaluation.specs.Environments.{Environment, row_at}
 
 -- the value of a column further out, seen from inside the subquery; none of its own

@@ -3,7 +3,7 @@
 use Rattle.std.specs.Prelude.{◌≡◌, ℕ, List, [], ◌∷◌, Bool, true, false, ◌&&◌, Ok, filter, map}
 use Rattle.rls_value.specs.declared.value.Value.{Value}
 use Rattle.rls_value.specs.{Truths.is_true, Values.equal_values, Values.value_at}
-use Rattle.rls_expr.specs.Terms.{Terms}
+use Rattle.rls_source.specs.rls_catalog.specs.rls_expr.specs.Terms.{Terms}
 use Rattle.rls_verdict.specs.rls_catalog.specs.State.{State}
 use Rattle.rls_source.specs.Readings.{unread}
 use Rattle.rls_evaluation.specs.{Environments.Environment, Environments.inside, Eval.Shows, Eval.meets}

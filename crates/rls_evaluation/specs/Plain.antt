@@ -2,7 +2,7 @@
 use Rattle.std.specs.Prelude.{◌≡◌, Ok}
 use Rattle.rls_value.specs.declared.value.Value.{Value}
 use Rattle.rls_value.specs.declared.value.Value.TheVariants.{Text}
-use Rattle.rls_expr.specs.Terms.{Term}
+use Rattle.rls_source.specs.rls_catalog.specs.rls_expr.specs.Terms.{Term}
 use Rattle.rls_verdict.specs.rls_catalog.specs.State.{State}
 use Rattle.rls_source.specs.Readings.{unread}
 use Rattle.rls_evaluation.specs.declared.plain.Plain.{Plain}

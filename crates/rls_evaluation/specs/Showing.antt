@@ -4,7 +4,7 @@ use Rattle.std.specs.Prelude.{ℕ, suc, List, [], ◌∷◌, Bool, true, false, 
 use Rattle.std.specs.List.{list_any}
 use Rattle.std.specs.Str.{bytes_eq}
 use Rattle.rls_value.specs.{declared.value.Value.Value, declared.truth.Truth.Truth, Values.truth_in, Values.is_null}
-use Rattle.rls_expr.specs.{declared.policy.Policy.Policy, Terms.Term}
+use Rattle.rls_source.specs.rls_catalog.specs.rls_expr.specs.{declared.policy.Policy.Policy, Terms.Term}
 use Rattle.rls_verdict.specs.rls_catalog.specs.{declared.stored.Stored.Stored, declared.verdict.Verdict.Verdict, Verdict.verdict_of}
 use Rattle.rls_verdict.specs.rls_catalog.specs.declared.verdict.Verdict.TheVariants as v
 use Rattle.rls_source.specs.Askings.{Asking, known, asked_if, followed_by}

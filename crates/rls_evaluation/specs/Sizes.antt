@@ -1,7 +1,7 @@
 -- How much there is to evaluate.
 use Rattle.std.specs.Prelude.{ℕ, ◌+◌, ◌*◌, List, [], ◌∷◌}
-use Rattle.rls_expr.specs.declared.policy.Policy.{Policy}
-use Rattle.rls_expr.specs.Terms.{Term, term_size}
+use Rattle.rls_source.specs.rls_catalog.specs.rls_expr.specs.declared.policy.Policy.{Policy}
+use Rattle.rls_source.specs.rls_catalog.specs.rls_expr.specs.Terms.{Term, term_size}
 use Rattle.rls_evaluation.specs.declared.relation.SecurityQuals.{SecurityQuals}
 use Rattle.rls_evaluation.specs.declared.relation.SecurityQuals.TheVariants.{Exempt, Policies}
 use Rattle.rls_evaluation.specs.declared.relation.SecuredRelation.{SecuredRelation}

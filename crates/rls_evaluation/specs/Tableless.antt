@@ -2,7 +2,7 @@
 -- for it.
 use Rattle.std.specs.Prelude.{[], Result, Ok, Err}
 use Rattle.rls_value.specs.{declared.refusal.Refusal.Refusal, declared.value.Value.Value, declared.value.Value.TheVariants.Null}
-use Rattle.rls_expr.specs.Terms.{Term}
+use Rattle.rls_source.specs.rls_catalog.specs.rls_expr.specs.Terms.{Term}
 use Rattle.rls_verdict.specs.rls_catalog.specs.State.{State}
 use Rattle.rls_source.specs.Askings.{known}
 use Rattle.rls_evaluation.specs.{Environments.Environment, Eval.Shows, Eval.value_of}

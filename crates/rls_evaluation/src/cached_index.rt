@@ -3,8 +3,8 @@
 ghost use Rattle.std.specs.Prelude.{◌≡◌, ◌++◌, ℕ, List, [], ◌∷◌, None, Ok, true, false, cond, drop, IfOk, IfSome, OnOk};
 ghost use Rattle.std.specs.{BTreeMap.is_at, Cmp.Lexicographic.slice_cmp, List.list_any};
 ghost use Rattle.rls_value.specs.{declared.value.Value.Value as SqlValue, Values.is_null, Values.listed};
-ghost use Rattle.rls_expr.specs.{Parts.has_query, Terms.maybe_term};
-ghost use Rattle.rls_expr.specs.Terms as t;
+ghost use Rattle.rls_source.specs.rls_catalog.specs.rls_expr.specs.{Parts.has_query, Terms.maybe_term};
+ghost use Rattle.rls_source.specs.rls_catalog.specs.rls_expr.specs.Terms as t;
 ghost use Rattle.rls_verdict.specs.rls_catalog.specs.State.{State};
 ghost use Rattle.rls_evaluation.specs.{declared.relation.SecuredRelation.SecuredRelation, Scoping.env_of, Showing.shows, Matching.IsUnmet, Matching.LeavesOut, Matching.has_values, Matching.values_in, CachedIndexes.AreIndexed, CachedIndexes.FoundIndex, CachedIndexes.IsIndexFor, CachedIndexes.IsIndexOf, CachedIndexes.IsMadeOf, CachedIndexes.rows_under};
 
@@ -12,7 +12,7 @@ use crate::datum::value_in;
 use crate::execution_state::Rows;
 use crate::keys::{all_pinned, equal_columns, has_null};
 use crate::scope::Env;
-use rls_expr::{Expr, has_query};
+use rls_source::rls_catalog::rls_expr::{Expr, has_query};
 use rls_value::{Items, Name, Row};
 use std::alloc::{AllocError, Global};
 use std::collections::BTreeMap;

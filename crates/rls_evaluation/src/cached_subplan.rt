@@ -3,7 +3,7 @@
 ghost use Rattle.std.specs.Prelude.{◌≡◌, ℕ, List, None, Some, true, false, drop, length, IfOk, IfSome, OnOk, []};
 ghost use Rattle.std.specs.Option.{option_copied};
 ghost use Rattle.rls_value.specs.declared.object.Object.{Object};
-ghost use Rattle.rls_expr.specs.{ExprTerms.query_of, Terms.Query};
+ghost use Rattle.rls_source.specs.rls_catalog.specs.rls_expr.specs.{ExprTerms.query_of, Terms.Query};
 ghost use Rattle.rls_verdict.specs.rls_catalog.specs.State.{State};
 ghost use Rattle.rls_evaluation.specs.{declared.relation.SecuredRelation.SecuredRelation, OuterColumns.is_among, OuterColumns.outer_values, OuterColumns.query_in, Scoping.env_of, Scoping.datum_value, Showing.shows, CachedSubplans.AreCached, CachedSubplans.FoundAt, CachedSubplans.IsFor, CachedSubplans.IsAnswerOf, CachedSubplans.IsCached, CachedSubplans.IsPut, CachedSubplans.IsAnswer, CachedSubplans.NoneBelow, CachedSubplans.IsEqualityOf, CachedSubplans.answer_for};
 ghost use Rattle.rls_evaluation.specs.declared.cached_subplan.Answer.TheVariants as a;
@@ -15,7 +15,7 @@ use crate::reuse::Reuse;
 use crate::scope::Env;
 use crate::value_set::ValueSet;
 use rls_equality::is_same_query;
-use rls_expr::Subquery;
+use rls_source::rls_catalog::rls_expr::Subquery;
 use rls_value::{Truth, Value};
 use std::alloc::{AllocError, Global};
 use std::collections::BTreeMap;

@@ -7,7 +7,7 @@ ghost use Rattle.rls_evaluation.specs.Deciding.{IsDecided, named_if};
 
 use crate::plain::plain_condition;
 use crate::scope::{Env, Scoped};
-use rls_expr::{Expr, Policy};
+use rls_source::rls_catalog::rls_expr::{Expr, Policy};
 use rls_value::{Name, Reference, Row, Truth};
 use rls_verdict::lesser_name;
 use rls_verdict::rls_catalog::Verdict;

@@ -2,8 +2,8 @@
 
 ghost use Rattle.std.specs.Prelude.{◌≡◌, [], ◌++◌, ◌||◌, false, true, Some, None, drop, IfOk, OnOk};
 ghost use Rattle.rls_value.specs.{declared.truth.Truth.TheVariants.False, declared.value.Value.TheVariants.Null, Truths.disjunction_of};
-ghost use Rattle.rls_expr.specs.Terms as t;
-ghost use Rattle.rls_expr.specs.{Terms.maybe_term, Terms.terms_of, ExprTerms.query_of};
+ghost use Rattle.rls_source.specs.rls_catalog.specs.rls_expr.specs.Terms as t;
+ghost use Rattle.rls_source.specs.rls_catalog.specs.rls_expr.specs.{Terms.maybe_term, Terms.terms_of, ExprTerms.query_of};
 ghost use Rattle.rls_evaluation.specs.{Items.items_seen, Items.with_item, Scoping.env_of, Scoping.datum_value, Scoping.datum_now, Scoping.maybe_datum, Scoping.maybe_now, Scoping.number_value, Holding.Holds, Holding.Narrows, Holding.Evaluates, Holding.shown_at, Holding.object_for, Holding.asked_of, Holding.is_key, Holding.put_in, CachedSubplans.Comes, Environments.inside, Keys.or_else, Gathering.gathered, Gathering.kept, Gathering.with_row, Showing.shows, Showing.judgements_on, Showing.is_allowed, Eval.value_of, Eval.together, Eval.or_equal, Eval.among_items, Eval.item_equals, Eval.item_of, Eval.item_or, Eval.meets, Eval.or_item, Eval.ranged_over, Eval.turned, Eval.turned_value};
 ghost use Rattle.rls_source.specs.{Askings.followed_by, Footprints.with_object};
 ghost use Rattle.rls_evaluation.specs.Eval as means;
@@ -21,7 +21,7 @@ use crate::relation::{SecurityQuals, VisibleRelations, allows, is_exempt, place_
 use crate::scope::{Env, Scoped, column_value};
 use crate::tables::Tables;
 use crate::value_set::ValueSet;
-use rls_expr::{Comparison, Expr, Node, Policy, Sign, Subquery};
+use rls_source::rls_catalog::rls_expr::{Comparison, Expr, Node, Policy, Sign, Subquery};
 use rls_value::{Items, Name, Object, Reference, Row, Truth, Value};
 use rls_verdict::rls_catalog::Verdict;
 use rls_verdict::{Judgement, combine};
@@ -45,7 +45,7 @@ pub fn eval<'a, 'c, S: Tables>(
         Node::Literal(value) => Ok(datum_of(value)),
         Node::Column(_) => Ok(Datum::Null),
         Node::Var(var) => Ok(column_value(&env.rows, var.level, var.column)),
-        Node::CurrentUser => Ok(Datum::Text(env.user.as_str())),
+        Node::CurrentUser => Ok(Datum::Name(env.user)),
         Node::Compare(how, left, right) => {
             comparison(alloc, source, execution, visible, *how, left, right, env)
         }

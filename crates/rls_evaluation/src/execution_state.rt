@@ -4,7 +4,7 @@ ghost use Rattle.std.specs.Prelude.{◌≡◌, ◌<◌, ℕ, List, [], Some, Non
 ghost use Rattle.std.specs.{BTreeMap.is_at, Map.lookup};
 ghost use Rattle.rls_value.specs.Objects.{object_order};
 ghost use Rattle.rls_source.specs.Footprints.{is_object, IsInOrder};
-ghost use Rattle.rls_expr.specs.{ExprTerms.query_of, Terms.Query};
+ghost use Rattle.rls_source.specs.rls_catalog.specs.rls_expr.specs.{ExprTerms.query_of, Terms.Query};
 ghost use Rattle.rls_verdict.specs.rls_catalog.specs.State.{State};
 ghost use Rattle.rls_evaluation.specs.{declared.relation.SecuredRelation.SecuredRelation, declared.cached_subplan.Asks.Asks, Holding.Holds, Holding.found_in, CachedSubplans.FoundAt, CachedSubplans.IsAnswer, CachedSubplans.IsAtPlace, CachedSubplans.IsKnown, Eval.among_items, Eval.first_item, Eval.has_row, Showing.shows, Scoping.datum_value, Scoping.env_of};
 
@@ -13,7 +13,7 @@ use crate::cached_subplan::{Answer, Asks, CachedSubplan, keep_at, place_for, res
 use crate::datum::Datum;
 use crate::read_set::ReadSet;
 use crate::scope::Env;
-use rls_expr::Subquery;
+use rls_source::rls_catalog::rls_expr::Subquery;
 use rls_value::{Object, Row, Truth};
 use std::alloc::{AllocError, Global};
 use std::collections::BTreeMap;

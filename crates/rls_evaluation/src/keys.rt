@@ -3,13 +3,13 @@
 ghost use Rattle.std.specs.Prelude.{◌≡◌, IfOk};
 ghost use Rattle.std.specs.List.{list_any};
 ghost use Rattle.rls_value.specs.Values.{is_null};
-ghost use Rattle.rls_expr.specs.Terms.{maybe_term, terms_of};
+ghost use Rattle.rls_source.specs.rls_catalog.specs.rls_expr.specs.Terms.{maybe_term, terms_of};
 ghost use Rattle.rls_evaluation.specs.Keys as spec;
 ghost use Rattle.rls_evaluation.specs.Scoping.{env_of, maybe_datum};
 
 use crate::datum::{Datum, datum_of};
 use crate::scope::{Env, column_value};
-use rls_expr::{Comparison, Expr, Node};
+use rls_source::rls_catalog::rls_expr::{Comparison, Expr, Node};
 use rls_value::{Row, Value};
 use std::alloc::{AllocError, Global};
 
@@ -126,7 +126,7 @@ fn known_value<'a>(expr: &'a Expr, env: &Env<'a>) -> Option<Datum<'a>>
     match expr.node() {
         Node::Literal(value) => Some(datum_of(value)),
         Node::Var(var) => outer_value(var.level, var.column, env),
-        Node::CurrentUser => Some(Datum::Text(env.user.as_str())),
+        Node::CurrentUser => Some(Datum::Name(env.user)),
         _ => None,
     }
 }

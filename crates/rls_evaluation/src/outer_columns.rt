@@ -1,12 +1,12 @@
 //! The columns further out that a subquery names.
 
 ghost use Rattle.std.specs.Prelude.{◌≡◌};
-ghost use Rattle.rls_expr.specs.ExprTerms.{query_of};
-ghost use Rattle.rls_expr.specs.Terms.{maybe_term, terms_of};
+ghost use Rattle.rls_source.specs.rls_catalog.specs.rls_expr.specs.ExprTerms.{query_of};
+ghost use Rattle.rls_source.specs.rls_catalog.specs.rls_expr.specs.Terms.{maybe_term, terms_of};
 ghost use Rattle.rls_evaluation.specs.OuterColumns as spec;
 ghost use Rattle.rls_evaluation.specs.Depths.{named_in};
 
-use rls_expr::{Expr, Node, Subquery, Var};
+use rls_source::rls_catalog::rls_expr::{Expr, Node, Subquery, Var};
 use std::alloc::{AllocError, Global};
 
 /// A column of the row in scope so many levels up, seen from outside the subquery.

@@ -2,13 +2,13 @@
 
 ghost use Rattle.std.specs.Prelude.{◌≡◌, IfSome};
 ghost use Rattle.rls_value.specs.Values.{equal_values, less_values, value_at, value_of_truth};
-ghost use Rattle.rls_expr.specs.Terms as t;
+ghost use Rattle.rls_source.specs.rls_catalog.specs.rls_expr.specs.Terms as t;
 ghost use Rattle.rls_evaluation.specs.Environments.{compared, row_at};
 ghost use Rattle.rls_evaluation.specs.Plain.{IsPlainly, plain_value};
 ghost use Rattle.rls_evaluation.specs.Scoping.{env_of, rows_in, text_in, text_now};
 
 use crate::scope::{Env, Scoped};
-use rls_expr::{Comparison, Expr, Node};
+use rls_source::rls_catalog::rls_expr::{Comparison, Expr, Node};
 use rls_value::{Truth, Value};
 use std::cmp::Ordering;
 

@@ -3,7 +3,7 @@
 ghost use Rattle.std.specs.Prelude.{◌≡◌, drop};
 ghost use Rattle.rls_evaluation.specs.Showing.{place_from, allows, is_exempt};
 
-use rls_expr::{Expr, Policy};
+use rls_source::rls_catalog::rls_expr::{Expr, Policy};
 use rls_value::{Items, Name, Reference};
 use rls_verdict::rls_catalog::Verdict;
 

@@ -10,7 +10,7 @@ use crate::execution_state::ExecutionState;
 use crate::relation::VisibleRelations;
 use crate::scope::{Env, Scoped};
 use crate::tables::Tables;
-use rls_expr::Expr;
+use rls_source::rls_catalog::rls_expr::Expr;
 use rls_value::{Items, Name, Row, Value};
 use std::alloc::{AllocError, Global};
 

@@ -2,11 +2,11 @@
 use Rattle.std.specs.Prelude.{◌≡◌, refl, ℕ, List, [], ◌∷◌, ◌++◌, Bool, true, false, ◌||◌, Result, Ok, Err}
 use Rattle.std.proofs.Common.{ap, sym, ◌∙◌, append-nil}
 use Rattle.std.proofs.lemmas.Bool.{true≢false}
-use Rattle.rls_expr.specs.Naming.{Step, Look, Enter, Leave, names_of, names_all}
-use Rattle.rls_expr.specs.Parts.{has_query, have_query}
-use Rattle.rls_expr.specs.Terms.{Term, Terms, Literal, Column, Var, CurrentUser, Compare, And, Or, Not, IsNull, IsNotNull, InList, NotInList, Exists, InSubquery, NotInSubquery, Scalar, Sum, End, More}
-use Rattle.rls_expr.specs.{declared.column_name.ColumnName.ColumnName, declared.columns.SelectedTable.SelectedTable, declared.expr.Var.Var as VarOf}
-use Rattle.rls_expr.specs.{Resolving.Names, Resolving.column_resolved, Resolving.resolved, Resolving.resolved_all, Scopes.InScope, Scopes.Unknown, Scopes.var_in, Selecting.selected_all, Selecting.selected_of}
+use Rattle.rls_guard.specs.rls_catalog.specs.rls_expr.specs.Naming.{Step, Look, Enter, Leave, names_of, names_all}
+use Rattle.rls_guard.specs.rls_catalog.specs.rls_expr.specs.Parts.{has_query, have_query}
+use Rattle.rls_guard.specs.rls_catalog.specs.rls_expr.specs.Terms.{Term, Terms, Literal, Column, Var, CurrentUser, Compare, And, Or, Not, IsNull, IsNotNull, InList, NotInList, Exists, InSubquery, NotInSubquery, Scalar, Sum, End, More}
+use Rattle.rls_guard.specs.rls_catalog.specs.rls_expr.specs.{declared.column_name.ColumnName.ColumnName, declared.columns.SelectedTable.SelectedTable, declared.expr.Var.Var as VarOf}
+use Rattle.rls_guard.specs.rls_catalog.specs.rls_expr.specs.{Resolving.Names, Resolving.column_resolved, Resolving.resolved, Resolving.resolved_all, Scopes.InScope, Scopes.Unknown, Scopes.var_in, Selecting.selected_all, Selecting.selected_of}
 use Rattle.rls_expansion.specs.Used.{entered, tables_of}
 
 first_not : (a b : Bool) → (a || b) ≡ false → a ≡ false

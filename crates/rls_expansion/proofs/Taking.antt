@@ -4,8 +4,8 @@ use Rattle.rls_value.specs.declared.verb.Kind.{Kind}
 use Rattle.rls_value.specs.declared.verb.Kind.TheVariants as k
 use Rattle.rls_value.specs.declared.verb.PolicyKind.{PolicyKind}
 use Rattle.rls_value.specs.declared.verb.PolicyKind.TheVariants as pk
-use Rattle.rls_expr.specs.declared.policy.Policy.{Policy}
-use Rattle.rls_expr.specs.Terms.{Term}
+use Rattle.rls_guard.specs.rls_catalog.specs.rls_expr.specs.declared.policy.Policy.{Policy}
+use Rattle.rls_guard.specs.rls_catalog.specs.rls_expr.specs.Terms.{Term}
 use Rattle.rls_recursion.specs.rls_catalog.specs.declared.verdict.Side.{Side}
 use Rattle.rls_recursion.specs.rls_catalog.specs.declared.verdict.Side.TheVariants as side
 use Rattle.rls_recursion.specs.rls_catalog.specs.Verdict.{expression_of, check_or_using}

@@ -4,7 +4,7 @@ use Rattle.std.specs.List.{list_any}
 use Rattle.std.proofs.Common.{ap, subst}
 use Rattle.rls_value.specs.declared.refusal.Refusal.{Refusal}
 use Rattle.rls_value.specs.declared.verb.Kind.TheVariants as k
-use Rattle.rls_expr.specs.{declared.table.TableDef.TableDef, declared.policy.Policy.Policy}
+use Rattle.rls_guard.specs.rls_catalog.specs.rls_expr.specs.{declared.table.TableDef.TableDef, declared.policy.Policy.Policy}
 use Rattle.rls_recursion.specs.rls_catalog.specs.declared.verdict.Side.TheVariants as side
 use Rattle.rls_recursion.specs.rls_catalog.specs.{Membership.fresh, Membership.Within, State.State, Verdict.chosen, Verdict.exempts}
 use Rattle.rls_guard.specs.rls_source.specs.{Asked.asked_policies, Asked.asked_table, Asked.policies_at, Asked.table_at, Askings.Asking, Askings.asked_if, Askings.followed_by, Askings.known}

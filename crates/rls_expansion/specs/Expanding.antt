@@ -4,7 +4,7 @@
 use Rattle.std.specs.Prelude.{ℕ, List, [], ◌∷◌, ◌++◌, Bool, true, false, Option, Some, None, Result, Ok, Err, if◌then◌else◌}
 use Rattle.rls_value.specs.{declared.refusal.Refusal.Refusal, declared.verb.Kind.Kind, Giving.and_then}
 use Rattle.rls_value.specs.declared.verb.Kind.TheVariants as k
-use Rattle.rls_expr.specs.{declared.columns.SelectedTable.SelectedTable, declared.policy.Policy.Policy, declared.table.TableDef.TableDef, Scopes.InScope}
+use Rattle.rls_guard.specs.rls_catalog.specs.rls_expr.specs.{declared.columns.SelectedTable.SelectedTable, declared.policy.Policy.Policy, declared.table.TableDef.TableDef, Scopes.InScope}
 use Rattle.rls_recursion.specs.rls_catalog.specs.declared.verdict.Side.{Side}
 use Rattle.rls_recursion.specs.rls_catalog.specs.declared.verdict.Side.TheVariants as side
 use Rattle.rls_guard.specs.rls_source.specs.Askings.{Asking, known, followed_by}

@@ -5,7 +5,7 @@ use Rattle.std.specs.BTreeMap.{is_at}
 use Rattle.std.proofs.Common.{sym, ◌∙◌}
 use Rattle.std.proofs.lemmas.Bool.{true≢false, or_left, or_right}
 use Rattle.rls_value.specs.Names.{one_of}
-use Rattle.rls_expr.specs.{declared.policy.Policy.Policy, Terms.Term}
+use Rattle.rls_guard.specs.rls_catalog.specs.rls_expr.specs.{declared.policy.Policy.Policy, Terms.Term}
 use Rattle.rls_recursion.specs.rls_catalog.specs.State.{State, at, name_order, or_none, policies_of}
 use Rattle.rls_recursion.specs.rls_catalog.specs.{Privileges.includes, Membership.Within}
 use Rattle.rls_recursion.specs.rls_catalog.proofs.Walks.{one_of-append, among_first}

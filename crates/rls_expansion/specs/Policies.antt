@@ -2,8 +2,8 @@
 use Rattle.std.specs.Prelude.{ℕ, List, Option, Some, None, Result, Ok, Err}
 use Rattle.std.specs.Borrow.{Bor}
 use Rattle.std.specs.Option.{option_copied}
-use Rattle.rls_expr.specs.declared.table.TableDef.{TableDef}
-use Rattle.rls_expr.specs.declared.policy.Policy.{Policy}
+use Rattle.rls_guard.specs.rls_catalog.specs.rls_expr.specs.declared.table.TableDef.{TableDef}
+use Rattle.rls_guard.specs.rls_catalog.specs.rls_expr.specs.declared.policy.Policy.{Policy}
 use Rattle.rls_recursion.specs.rls_catalog.specs.Verdict.{exempts}
 use Rattle.rls_guard.specs.rls_source.specs.Askings.{Asking, known, asked_if, followed_by}
 use Rattle.rls_guard.specs.rls_source.specs.Asked.{asked_policies}

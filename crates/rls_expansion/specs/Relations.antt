@@ -2,9 +2,9 @@
 -- SELECT that apply to the role.
 use Rattle.std.specs.Prelude.{ℕ, List, [], ◌∷◌, ◌++◌, Option, Some, None}
 use Rattle.rls_value.specs.declared.verb.Kind.TheVariants as k
-use Rattle.rls_expr.specs.declared.policy.Policy.{Policy}
-use Rattle.rls_expr.specs.declared.table.TableDef.{TableDef}
-use Rattle.rls_expr.specs.Scopes.{InScope, known_table}
+use Rattle.rls_guard.specs.rls_catalog.specs.rls_expr.specs.declared.policy.Policy.{Policy}
+use Rattle.rls_guard.specs.rls_catalog.specs.rls_expr.specs.declared.table.TableDef.{TableDef}
+use Rattle.rls_guard.specs.rls_catalog.specs.rls_expr.specs.Scopes.{InScope, known_table}
 use Rattle.rls_recursion.specs.rls_catalog.specs.declared.verdict.Side.TheVariants as side
 use Rattle.rls_guard.specs.rls_evaluation.specs.declared.relation.SecuredRelation.{SecuredRelation}
 use Rattle.rls_guard.specs.rls_evaluation.specs.declared.relation.SecurityQuals.{SecurityQuals}

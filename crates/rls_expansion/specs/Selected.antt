@@ -3,7 +3,7 @@
 use Rattle.std.specs.Prelude.{ℕ, List, [], ◌∷◌, ◌++◌, Option, Some, None, Bool, if◌then◌else◌, map}
 use Rattle.std.specs.List.{list_any}
 use Rattle.rls_value.specs.declared.verb.Kind.{Kind}
-use Rattle.rls_expr.specs.{declared.columns.SelectedTable.SelectedTable, declared.policy.Policy.Policy, Resolving.resolved, Scopes.InScope, Selecting.selected_of, Terms.Term}
+use Rattle.rls_guard.specs.rls_catalog.specs.rls_expr.specs.{declared.columns.SelectedTable.SelectedTable, declared.policy.Policy.Policy, Resolving.resolved, Scopes.InScope, Selecting.selected_of, Terms.Term}
 use Rattle.rls_recursion.specs.rls_catalog.specs.Privileges.{includes}
 use Rattle.rls_guard.specs.{declared.role_privileges.RolePrivileges.RolePrivileges, Naming.names_over}
 use Rattle.rls_recursion.specs.{declared.dependency.PolicyDependency.PolicyDependency, declared.listings.PolicySubqueries.PolicySubqueries}

@@ -4,8 +4,8 @@ use Rattle.std.specs.List.{list_any}
 use Rattle.rls_value.specs.{declared.verb.Kind.Kind, declared.verb.PolicyKind.PolicyKind}
 use Rattle.rls_value.specs.declared.verb.Kind.TheVariants as k
 use Rattle.rls_value.specs.declared.verb.PolicyKind.TheVariants as pk
-use Rattle.rls_expr.specs.{declared.policy.Policy.Policy, Parts.has_query, Terms.Term}
-pub use Rattle.rls_expr.specs.Naming.{entered, tables_of}
+use Rattle.rls_guard.specs.rls_catalog.specs.rls_expr.specs.{declared.policy.Policy.Policy, Parts.has_query, Terms.Term}
+pub use Rattle.rls_guard.specs.rls_catalog.specs.rls_expr.specs.Naming.{entered, tables_of}
 use Rattle.rls_recursion.specs.rls_catalog.specs.{declared.verdict.Side.Side, Privileges.includes, Verdict.is_for_kind}
 use Rattle.rls_recursion.specs.rls_catalog.specs.declared.verdict.Side.TheVariants as side
 

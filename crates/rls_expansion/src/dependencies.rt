@@ -9,8 +9,8 @@ ghost use Rattle.rls_expansion.specs.Used as used;
 
 use crate::policies::policies_for;
 use crate::used::{holds_subquery, tables_used};
-use rls_expr::{NamedTable, Policy, TableDef};
 use rls_guard::RolePrivileges;
+use rls_guard::rls_catalog::rls_expr::{NamedTable, Policy, TableDef};
 use rls_guard::rls_policy::chosen;
 use rls_guard::rls_role::is_among;
 use rls_guard::rls_source::{Reads, RowSource, noted_table};

@@ -3,7 +3,7 @@
 ghost use Rattle.std.specs.Prelude.{◌≡◌, [], ◌++◌, IfOk, OnOk};
 ghost use Rattle.std.specs.Option.{option_copied};
 ghost use Rattle.rls_value.specs.Giving.{Gives};
-ghost use Rattle.rls_expr.specs.Scopes.{in_scope};
+ghost use Rattle.rls_guard.specs.rls_catalog.specs.rls_expr.specs.Scopes.{in_scope};
 ghost use Rattle.rls_guard.specs.rls_source.specs.Answering.{Answers};
 ghost use Rattle.rls_expansion.specs.Expanding as spec;
 
@@ -12,7 +12,7 @@ use crate::policies::policies_for;
 use crate::relations::{known_in, relations_of};
 use crate::selected::{selected_used, subqueries_in};
 use crate::used::tables_used;
-use rls_expr::{FromTable, SelectedTable};
+use rls_guard::rls_catalog::rls_expr::{FromTable, SelectedTable};
 use rls_guard::rls_evaluation::SecuredRelation;
 use rls_guard::rls_source::{Reads, RowSource};
 use rls_guard::{PolicyScope, RolePrivileges, RowCheck, row_checks_by};

@@ -2,7 +2,7 @@
 
 ghost use Rattle.std.specs.Prelude.{◌≡◌};
 ghost use Rattle.rls_value.specs.declared.verb.Kind.{Kind};
-ghost use Rattle.rls_expr.specs.declared.policy.Policy.{Policy};
+ghost use Rattle.rls_guard.specs.rls_catalog.specs.rls_expr.specs.declared.policy.Policy.{Policy};
 ghost use Rattle.rls_recursion.specs.rls_catalog.specs.declared.verdict.Side.{Side};
 ghost use Rattle.rls_recursion.specs.rls_catalog.specs.Verdict.{expression_of};
 ghost use Rattle.rls_expansion.specs.Used.{takes_using, takes_check, expression_by};

@@ -4,8 +4,8 @@ ghost use Rattle.rls_guard.specs.rls_source.specs.Answering.{Tells};
 ghost use Rattle.rls_expansion.specs.Policies as spec;
 ghost use Rattle.rls_expansion.specs.Policies.{policies_borrowed};
 
-use rls_expr::TableDef;
 use rls_guard::RolePrivileges;
+use rls_guard::rls_catalog::rls_expr::TableDef;
 use rls_guard::rls_source::{Reads, RowSource, noted_policies};
 use rls_recursion::rls_catalog::Policies;
 use rls_value::Name;

@@ -2,11 +2,11 @@
 
 ghost use Rattle.std.specs.Prelude.{◌≡◌, ◌++◌, IfOk, OnOk};
 ghost use Rattle.std.specs.Option.{option_copied};
-ghost use Rattle.rls_expr.specs.Scopes.{known_table};
+ghost use Rattle.rls_guard.specs.rls_catalog.specs.rls_expr.specs.Scopes.{known_table};
 ghost use Rattle.rls_recursion.specs.Searching.{dependency_in};
 ghost use Rattle.rls_expansion.specs.Relations as spec;
 
-use rls_expr::{FromTable, NamedTable, Policy, TableDef, known_table};
+use rls_guard::rls_catalog::rls_expr::{FromTable, NamedTable, Policy, TableDef, known_table};
 use rls_guard::rls_evaluation::{SecuredRelation, SecurityQuals};
 use rls_guard::{PolicyScope, conditions_of};
 use rls_recursion::rls_catalog::Side;

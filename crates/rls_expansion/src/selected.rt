@@ -2,12 +2,14 @@
 //! mentions.
 
 ghost use Rattle.std.specs.Prelude.{◌≡◌, ◌++◌, IfOk, OnOk};
-ghost use Rattle.rls_expr.specs.{Resolving.resolved, Scopes.in_scope, Selecting.selected_of};
+ghost use Rattle.rls_guard.specs.rls_catalog.specs.rls_expr.specs.{Resolving.resolved, Scopes.in_scope, Selecting.selected_of};
 ghost use Rattle.rls_guard.specs.Naming.{names_over};
 ghost use Rattle.rls_expansion.specs.Selected as spec;
 
 use crate::used::{asks_check, asks_using, is_to};
-use rls_expr::{Expr, NamedTable, Policy, SelectedTable, has_query, put_selected};
+use rls_guard::rls_catalog::rls_expr::{
+    Expr, NamedTable, Policy, SelectedTable, has_query, put_selected,
+};
 use rls_guard::rls_role::EffectiveRoles;
 use rls_guard::{PolicyScope, condition_of};
 use rls_recursion::rls_catalog::{Policies, Side};

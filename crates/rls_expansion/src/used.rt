@@ -2,12 +2,12 @@
 
 ghost use Rattle.std.specs.Prelude.{◌≡◌, [], ◌∷◌, ◌++◌, map, IfOk, OnOk};
 ghost use Rattle.std.specs.List.{list_any};
-ghost use Rattle.rls_expr.specs.Naming.{step_of};
+ghost use Rattle.rls_guard.specs.rls_catalog.specs.rls_expr.specs.Naming.{step_of};
 ghost use Rattle.rls_recursion.specs.rls_catalog.specs.Privileges.{includes};
 ghost use Rattle.rls_recursion.specs.rls_catalog.specs.Verdict as verdict;
 ghost use Rattle.rls_expansion.specs.Used as spec;
 
-use rls_expr::{Expr, NameStep, Policy, has_query, put_names};
+use rls_guard::rls_catalog::rls_expr::{Expr, NameStep, Policy, has_query, put_names};
 use rls_guard::rls_role::EffectiveRoles;
 use rls_recursion::rls_catalog::{Policies, Side};
 use rls_value::shared::Share;

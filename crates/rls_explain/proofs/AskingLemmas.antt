@@ -8,7 +8,7 @@ use Rattle.rls_meaning.specs.rls_guard.specs.rls_catalog.specs.{declared.stored.
 use Rattle.rls_meaning.specs.rls_guard.specs.rls_evaluation.specs.declared.relation.SecuredRelation.{SecuredRelation}
 use Rattle.rls_meaning.specs.rls_guard.specs.{declared.quals.RowCheck.RowCheck, declared.reply.Decision.Decision}
 use Rattle.rls_judging.specs.{Handed.judged_now, Handed.rows_borrowed, Judging.qualifying_rows_of, ScannedRows.pinned_key, ScannedRows.scanned_rows}
-use Rattle.rls_meaning.specs.rls_depth.proofs.Walking.{ok_same}
+use Rattle.rls_meaning.proofs.Walking.{ok_same}
 use Rattle.rls_meaning.specs.rls_expansion.specs.declared.expansion.PolicyExpansion.{PolicyExpansion}
 use Rattle.rls_meaning.specs.Showing.{rows_at_key}
 use Rattle.rls_meaning.proofs.Qualifying.{rows_told}

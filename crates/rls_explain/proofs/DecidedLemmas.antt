@@ -17,7 +17,7 @@ use Rattle.rls_statement.specs.declared.statement.Statement.TheVariants as state
 use Rattle.rls_statement.specs.declared.statement.SetRole.TheVariants as set
 use Rattle.rls_meaning.specs.rls_guard.specs.{declared.context.Ctx.Ctx, declared.effect.Effect.Effect, declared.reply.Decision.Decision, declared.reply.Reply.Reply, Effects.shown}
 use Rattle.rls_meaning.specs.rls_access.specs.Statements.{mode_or_refused}
-use Rattle.rls_meaning.specs.rls_depth.proofs.Walking.{and_then_ok}
+use Rattle.rls_meaning.proofs.Walking.{and_then_ok}
 use Rattle.rls_meaning.specs.rls_dml.specs.{declared.analysed_insert.AnalysedInsert.AnalysedInsert, declared.analysed_update.AnalysedUpdate.AnalysedUpdate, declared.deleting.AnalysedDelete.AnalysedDelete, declared.selecting.AnalysedSelect.AnalysedSelect, Inserting.numbered, Updating.places_set, Writing.order_of}
 use Rattle.rls_meaning.specs.rls_ddl.specs.{AlteringPolicies.has_no_place_for, NamedPolicies.policy_or_undefined}
 use Rattle.rls_meaning.specs.{Analysing.place_in, Memberships.grant_roles_in, Memberships.revoke_roles_in, Naming.grantees_in, Naming.provided, Naming.role_in, Parts.names_in, Policies.alter_policy_in, Policies.conditions, Policies.conditions_in, Policies.create_policy_in, Policies.drop_policy_in, Privileges.grant_in, Privileges.revoke_in, Roles.alter_role_in, Roles.create_role_in, Roles.superuser_in, Tables.alter_table_in, Tables.create_table_in, Tables.owner_in}

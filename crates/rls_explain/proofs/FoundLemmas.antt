@@ -15,7 +15,7 @@ use Rattle.rls_statement.specs.declared.statement.Statement.TheVariants as state
 use Rattle.rls_meaning.specs.rls_guard.specs.rls_evaluation.specs.Showing.{shows}
 use Rattle.rls_meaning.specs.rls_guard.specs.declared.context.Ctx.{Ctx}
 use Rattle.rls_judging.specs.ScannedRows.{pinned_key}
-use Rattle.rls_meaning.specs.rls_depth.proofs.{Tables.within_first, Tables.within_last, Walking.and_then_ok, Walking.ok_same}
+use Rattle.rls_meaning.proofs.{Tables.within_first, Tables.within_last, Walking.and_then_ok, Walking.ok_same}
 use Rattle.rls_meaning.specs.rls_dml.specs.{declared.analysed_insert.AnalysedInsert.AnalysedInsert, declared.analysed_update.AnalysedUpdate.AnalysedUpdate, declared.deleting.AnalysedDelete.AnalysedDelete, declared.selecting.AnalysedSelect.AnalysedSelect, Inserting.numbered, Inserting.tuples_tables, Updating.places_set as places_of_update}
 use Rattle.rls_meaning.specs.rls_expansion.specs.{declared.expansion.PolicyExpansion.PolicyExpansion, Expanding.judges_old, Used.all_tables, Used.tables_if}
 use Rattle.rls_meaning.specs.{Analysing.checked, Analysing.items_of, Analysing.items_resolved, Analysing.of_both, Analysing.of_value, Analysing.place_in, Commands.Command, Commands.closing_in, Commands.permitted, Commands.permitted_in, Commands.query_tables, Commands.reads, Commands.required}

@@ -14,7 +14,7 @@ use Rattle.rls_statement.specs.declared.statement.Statement.TheVariants as state
 use Rattle.rls_meaning.specs.rls_guard.specs.rls_evaluation.specs.{Environments.Environment, Environments.alone, Environments.over, Eval.Shows, Showing.shows, Tableless.value_given}
 use Rattle.rls_meaning.specs.rls_guard.specs.{declared.context.Ctx.Ctx, declared.reply.Decision.Decision}
 use Rattle.rls_judging.specs.ScannedRows.{pinned_key}
-use Rattle.rls_meaning.specs.rls_depth.proofs.{Tables.within_first, Tables.within_last, Walking.and_then_ok, Walking.ok_same}
+use Rattle.rls_meaning.proofs.{Tables.within_first, Tables.within_last, Walking.and_then_ok, Walking.ok_same}
 use Rattle.rls_meaning.specs.rls_dml.specs.{declared.analysed_insert.AnalysedInsert.AnalysedInsert, declared.analysed_update.AnalysedUpdate.AnalysedUpdate, declared.deleting.AnalysedDelete.AnalysedDelete, declared.selecting.AnalysedSelect.AnalysedSelect, Inserting.nulls, Inserting.numbered, Inserting.tuples_tables, Updating.places_set as places_of_update, Writing.assigned, Writing.key_at}
 use Rattle.rls_meaning.specs.rls_expansion.specs.{declared.expansion.PolicyExpansion.PolicyExpansion, Expanding.judges_new, Expanding.judges_old, Used.all_tables, Used.tables_if, Used.tables_of}
 use Rattle.rls_meaning.specs.{Commands.Command, Commands.permitted_in, Commands.query_tables, Deleting.delete_command, Deleting.delete_parts, Evaluating.value, Expanding.IsExpansionIn, Expanding.expansion_in, Expanding.sees, Inserting.insert_command, Inserting.insert_parts, Inserting.row_of_tuple, Meaning.effect_of, Naming.table_in, Resolving.resolved, Rows.kinds_of, Rows.qualifying, Rows.scanned, Rows.shown_to, Selecting.select_command, Selecting.select_parts, Showing.rows_at_key, Updating.new_version, Updating.update_command, Updating.update_parts}

@@ -8,7 +8,7 @@ use Rattle.rls_expr.specs.{Resolving.resolved as resolved_over, Scopes.InScope, 
 use Rattle.rls_meaning.specs.rls_guard.specs.rls_catalog.specs.State.{State}
 use Rattle.rls_meaning.specs.rls_guard.specs.Naming.{names_over}
 use Rattle.rls_statement.specs.declared.changing.Assignment.{Assignment}
-use Rattle.rls_meaning.specs.rls_depth.proofs.{Using.behind, Using.in_front}
+use Rattle.rls_meaning.proofs.{Using.behind, Using.in_front}
 use Rattle.rls_meaning.specs.rls_dml.specs.{Checking.names_over_none, Inserting.tuple_resolved, Inserting.tuples_tables}
 use Rattle.rls_meaning.specs.rls_expansion.specs.Used.{all_tables, tables_if}
 use Rattle.rls_meaning.specs.{Parts.tables_of, Resolving.resolved}

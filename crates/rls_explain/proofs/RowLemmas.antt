@@ -9,7 +9,7 @@ use Rattle.rls_meaning.specs.rls_guard.specs.rls_catalog.specs.declared.verdict.
 use Rattle.rls_meaning.specs.rls_guard.specs.rls_source.specs.Sequences.{each_of}
 use Rattle.rls_meaning.specs.rls_guard.specs.rls_evaluation.specs.{Environments.Environment, Environments.alone, Environments.over, Eval.Shows, Showing.shows, Tableless.value_given}
 use Rattle.rls_judging.specs.{Judging.judged_all, ScannedRows.pinned_key}
-use Rattle.rls_meaning.specs.rls_depth.proofs.{Tables.within_first, Tables.within_last, Walking.and_then_ok, Walking.ok_same}
+use Rattle.rls_meaning.proofs.{Tables.within_first, Tables.within_last, Walking.and_then_ok, Walking.ok_same}
 use Rattle.rls_meaning.specs.rls_dml.specs.{Inserting.nulls, Inserting.numbered, Inserting.tuples_tables, Updating.places_set, Writing.assigned, Writing.key_at}
 use Rattle.rls_meaning.specs.rls_expansion.specs.{declared.expansion.PolicyExpansion.PolicyExpansion, Expanding.judges_new, Expanding.judges_old, Used.all_tables, Used.tables_if, Used.tables_of}
 use Rattle.rls_meaning.specs.{Commands.Command, Commands.query_tables, Evaluating.value, Expanding.IsExpansionIn, Expanding.sees, Inserting.row_of_tuple, Rows.kinds_of, Rows.qualifying, Rows.scanned, Rows.shown_to, Updating.new_version}

@@ -11,7 +11,7 @@ use Rattle.rls_meaning.specs.rls_guard.specs.rls_catalog.specs.declared.verdict.
 use Rattle.rls_meaning.specs.rls_guard.specs.rls_source.specs.Sequences.{each_or_refused}
 use Rattle.rls_meaning.specs.rls_guard.specs.rls_evaluation.specs.Showing.{allows, shows}
 use Rattle.rls_recursion.specs.{declared.listings.Listing.Listing, Listings.leads_of, Listings.list_from, Listings.listed, Listings.no_listing, Listings.put_gone_through, Listings.put_selected}
-use Rattle.rls_meaning.specs.rls_depth.proofs.Tables.{within_nothing}
+use Rattle.rls_meaning.proofs.Tables.{within_nothing}
 use Rattle.rls_meaning.specs.rls_expansion.specs.{declared.expansion.PolicyExpansion.PolicyExpansion, Expanding.judges_old, Expanding.permission_checks}
 use Rattle.rls_meaning.specs.{Commands.Command, Commands.closing_in, Commands.needed_in, Commands.query_tables, Expanding.IsExpanded, Expanding.IsExpansionIn, Expanding.Made, Expanding.Refused, Expanding.expansion_in, Rows.kinds_of, Rows.verdict}
 use Rattle.rls_explain.specs.declared.outcome.{RowOutcome.RowOutcome, Reason.Reason, Reason.TheVariants.Denied}

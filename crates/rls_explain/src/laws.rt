@@ -9,9 +9,8 @@ ghost use Rattle.rls_meaning.specs.Meaning.{effect_of};
 ghost use Rattle.rls_explain.specs.Explaining.{IsOfTruths, decisions_of, explained_all};
 ghost use Rattle.rls_explain.specs.Found.{DeleteIsFound, InsertHasRoom, InsertIsFound, SelectIsFound, UpdateIsFound};
 
-use rls_meaning::expansion_means;
-use rls_meaning::rls_depth::role_means;
 use rls_meaning::rls_expansion::expression_taken;
+use rls_meaning::{expansion_means, role_means};
 
 /// The decisions that are explained are those of what the statement means, and the verdict of each is that of the truths which
 /// are shown beside it.

@@ -5,9 +5,8 @@ ghost use Rattle.rls_explain.specs.Found.{InsertHasRoom};
 ghost use Rattle.rls_explain.specs.OutcomeLaws.{DeleteTellsChanges, InsertTellsChanges, MetQualify, RefusedInsertTellsNone, RefusedUpdateTellsNone, ScansQualify, SeenTellsNone, UpdateTellsChanges};
 
 use crate::laws::decisions_found;
-use rls_meaning::expansion_means;
-use rls_meaning::rls_depth::role_means;
 use rls_meaning::rls_expansion::expression_taken;
+use rls_meaning::{expansion_means, role_means};
 
 /// What is found through the policy expansion of a statement that decides on a row is what it did with its rows.
 pub(crate) fn outcomes_found()

@@ -1,10 +1,11 @@
 -- What a statement comes to: it is done, with a reply, decisions on rows, changes and perhaps another role; or it is
 -- refused, and changes nothing.
-use Rattle.std.specs.Prelude.{List, [], None, Result, Ok, Err}
-use Rattle.rls_expr.specs.rls_value.specs.declared.refusal.Refusal.{Refusal}
+use Rattle.std.specs.Prelude.{◌≡◌, List, [], None, Result, Ok, Err}
+use Rattle.rls_evaluation.specs.rls_catalog.specs.rls_expr.specs.rls_value.specs.declared.refusal.Refusal.{Refusal}
 use Rattle.rls_evaluation.specs.rls_catalog.specs.declared.change.Change.{Change}
 use Rattle.rls_guard.specs.declared.effect.Effect.{Effect}
 use Rattle.rls_guard.specs.declared.effect.Effect.TheVariants as effect
+use Rattle.rls_guard.specs.declared.reply.{Decision.Decision, Reply.Reply}
 use Rattle.rls_guard.specs.declared.reply.Reply.TheVariants as reply
 
 -- a statement that writes objects and no rows
@@ -20,3 +21,18 @@ shown (Err refusal) = effect.Refused refusal []
 abbrev pub changes_of : Effect → List Change
 changes_of (effect.Done reply decisions changes role) = changes
 changes_of (effect.Refused refusal decisions) = []
+
+-- the reply, or the refusal
+abbrev pub reply_of : Effect → Result Reply Refusal
+reply_of (effect.Done made decisions changes role) = Ok made
+reply_of (effect.Refused refusal decisions) = Err refusal
+
+-- what row security said of each row
+abbrev pub decisions_of : Effect → List Decision
+decisions_of (effect.Done made decisions changes role) = decisions
+decisions_of (effect.Refused refusal decisions) = decisions
+
+-- it is the reply or the refusal, with these decisions
+pub record IsTold (answer : Result Reply Refusal) (judged : List Decision) (it : Effect) : Type 0 where
+  pub reply : answer ≡ reply_of it
+  pub decisions : judged ≡ decisions_of it

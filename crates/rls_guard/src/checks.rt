@@ -6,9 +6,9 @@ ghost use Rattle.rls_guard.specs.Checks as spec;
 ghost use Rattle.rls_guard.specs.Checks.{superuser_or_denied};
 
 use crate::support::is_unsupported_with;
+use rls_evaluation::rls_catalog::rls_expr::rls_value::{Name, Refusal, Why};
+use rls_evaluation::rls_catalog::rls_expr::{Expr, has_query, has_sum};
 use rls_evaluation::rls_source::{Reads, RowSource, noted_role};
-use rls_expr::rls_value::{Name, Refusal, Why};
-use rls_expr::{Expr, has_query, has_sum};
 use std::alloc::Global;
 
 /// Denied where the role is no superuser.

@@ -1,16 +1,18 @@
 //! The names in a statement, which have to be there.
 
 ghost use Rattle.std.specs.Prelude.{◌≡◌, [], ◌∷◌, ◌++◌, drop, map, None, Ok, IfOk, OnOk};
-ghost use Rattle.rls_expr.specs.rls_value.specs.Giving.{Gives, and_then};
-ghost use Rattle.rls_expr.specs.Naming.{step_of};
-ghost use Rattle.rls_expr.specs.Scopes.{var_in, var_borrowed};
-ghost use Rattle.rls_expr.specs.Terms.{qualifier_of};
+ghost use Rattle.rls_evaluation.specs.rls_catalog.specs.rls_expr.specs.rls_value.specs.Giving.{Gives, and_then};
+ghost use Rattle.rls_evaluation.specs.rls_catalog.specs.rls_expr.specs.Naming.{step_of};
+ghost use Rattle.rls_evaluation.specs.rls_catalog.specs.rls_expr.specs.Scopes.{var_in, var_borrowed};
+ghost use Rattle.rls_evaluation.specs.rls_catalog.specs.rls_expr.specs.Terms.{qualifier_of};
 ghost use Rattle.rls_evaluation.specs.rls_source.specs.Answering.{Answers};
 ghost use Rattle.rls_guard.specs.Naming as spec;
 
+use rls_evaluation::rls_catalog::rls_expr::rls_value::{Items, Name, NameKind, Refusal};
+use rls_evaluation::rls_catalog::rls_expr::{
+    ColumnName, FromItem, NameStep, NamedTable, TableDef, Var, unqualified, var_of,
+};
 use rls_evaluation::rls_source::{Reads, RowSource, table_named};
-use rls_expr::rls_value::{Items, Name, NameKind, Refusal};
-use rls_expr::{ColumnName, FromItem, NameStep, NamedTable, TableDef, Var, unqualified, var_of};
 use std::alloc::{AllocError, Global};
 
 /// The tables that subqueries name, with their definitions.

@@ -1,17 +1,17 @@
 //! Who the current role is for a statement: its attributes, and whose privileges it has.
 
 ghost use Rattle.std.specs.Prelude.{◌≡◌};
-ghost use Rattle.rls_expr.specs.rls_value.specs.Giving.{Gives};
+ghost use Rattle.rls_evaluation.specs.rls_catalog.specs.rls_expr.specs.rls_value.specs.Giving.{Gives};
 ghost use Rattle.rls_evaluation.specs.rls_catalog.specs.Verdict.{exempts};
 ghost use Rattle.rls_evaluation.specs.rls_source.specs.Answering.{Answers, Tells};
 ghost use Rattle.rls_grant.specs.Missing.{missing_in};
 ghost use Rattle.rls_guard.specs.RolePrivileges as spec;
 
 use crate::permission_check::PermissionCheck;
+use rls_evaluation::rls_catalog::rls_expr::TableDef;
+use rls_evaluation::rls_catalog::rls_expr::rls_value::{Name, Refusal, Why};
 use rls_evaluation::rls_catalog::{Grants, RoleDef};
 use rls_evaluation::rls_source::{Reads, RowSource, noted_grants, noted_role};
-use rls_expr::TableDef;
-use rls_expr::rls_value::{Name, Refusal, Why};
 use rls_grant::missing_in;
 use rls_policy::exempt;
 use rls_policy::rls_role::{EffectiveRoles, noted_effective_roles};

@@ -4,7 +4,7 @@ use Rattle.std.specs.Prelude.{◌≡◌, refl, ℕ, List, [], ◌∷◌, ◌++�
 use Rattle.std.proofs.Common.{ap, arith, sym, ◌∙◌, subst, append-nil, append_assoc}
 use Rattle.std.proofs.lemmas.Bool.{true≢false}
 use Rattle.rls_value.specs.{declared.refusal.Refusal.Refusal, declared.row.RowId.RowId, declared.object.Object.Object, declared.value.Value.Value, Giving.and_then}
-use Rattle.rls_expr.specs.Terms.{Terms}
+use Rattle.rls_guard.specs.rls_catalog.specs.rls_expr.specs.Terms.{Terms}
 use Rattle.rls_guard.specs.rls_catalog.specs.{State.State, declared.stored.Stored.Stored, declared.verdict.Verdict.Verdict}
 use Rattle.rls_evaluation.specs.rls_source.specs.{Footprints.with_reads, Footprints.footprint_of, Footprints.IsInOrder, Readings.unread, Readings.next_reads, Once.each_once, Answering.Tells as Reading, Askings.Asking, Askings.known, Askings.followed_by}
 use Rattle.rls_evaluation.specs.{Eval.Shows, Showing.allows, Showing.verdict_on, Gathering.gathered, Holding.Evaluates}

@@ -5,7 +5,7 @@ use Rattle.std.proofs.lemmas.List.{map-append}
 use Rattle.std.specs.declared.alloc.AllocError.{AllocError}
 use Rattle.rls_value.specs.declared.value.Value.{Value}
 use Rattle.rls_value.specs.declared.object.Object.{Object}
-use Rattle.rls_expr.specs.Terms.{Term}
+use Rattle.rls_guard.specs.rls_catalog.specs.rls_expr.specs.Terms.{Term}
 use Rattle.rls_guard.specs.rls_catalog.specs.State.{State}
 use Rattle.rls_evaluation.specs.Environments.{Environment, over}
 use Rattle.rls_evaluation.specs.Eval.{Shows}

@@ -7,7 +7,7 @@ use Rattle.std.specs.declared.alloc.AllocError.{AllocError}
 use Rattle.rls_value.specs.{declared.object.Object.Object, declared.value.Value.Value}
 use Rattle.rls_guard.specs.rls_catalog.specs.{State.State, declared.stored.Stored.Stored}
 use Rattle.rls_evaluation.specs.{Holding.Evaluates, declared.datum.Datum.Datum, Eval.Shows, Scoping.datum_value}
-use Rattle.rls_expr.specs.Terms.{Terms}
+use Rattle.rls_guard.specs.rls_catalog.specs.rls_expr.specs.Terms.{Terms}
 use Rattle.rls_evaluation.specs.rls_source.specs.Askings.{Asking, known, followed_by}
 use Rattle.rls_guard.specs.{declared.quals.RowCheck.RowCheck, declared.reply.Decision.Decision}
 use Rattle.rls_judging.specs.Judging.{decisions_on, judged_old, are_allowed}

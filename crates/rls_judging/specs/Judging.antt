@@ -3,7 +3,7 @@
 use Rattle.std.specs.Prelude.{ℕ, List, [], ◌∷◌, ◌++◌, Bool, true, false, Option, Ok}
 use Rattle.std.specs.List.{list_all}
 use Rattle.rls_value.specs.{declared.row.RowId.RowId, declared.value.Value.Value}
-use Rattle.rls_expr.specs.Terms.{Term, Terms, maybe_term}
+use Rattle.rls_guard.specs.rls_catalog.specs.rls_expr.specs.Terms.{Term, Terms, maybe_term}
 use Rattle.rls_guard.specs.rls_catalog.specs.declared.stored.Stored.{Stored}
 use Rattle.rls_evaluation.specs.rls_source.specs.Askings.{Asking, known, followed_by, asked_if}
 use Rattle.rls_evaluation.specs.rls_source.specs.Once.{each_once}

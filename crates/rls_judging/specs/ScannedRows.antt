@@ -3,8 +3,8 @@ use Rattle.std.specs.Prelude.{ℕ, List, [], Option, Some, None, Ok}
 use Rattle.std.specs.List.{list_any}
 use Rattle.rls_value.specs.declared.value.Value.{Value}
 use Rattle.rls_value.specs.Values.{is_null}
-use Rattle.rls_expr.specs.declared.table.TableDef.{TableDef}
-use Rattle.rls_expr.specs.Terms.{Term, maybe_term}
+use Rattle.rls_guard.specs.rls_catalog.specs.rls_expr.specs.declared.table.TableDef.{TableDef}
+use Rattle.rls_guard.specs.rls_catalog.specs.rls_expr.specs.Terms.{Term, maybe_term}
 use Rattle.rls_guard.specs.rls_catalog.specs.declared.stored.Stored.{Stored}
 use Rattle.rls_evaluation.specs.rls_source.specs.Askings.{Asking, known, asked_if}
 use Rattle.rls_evaluation.specs.rls_source.specs.Asked.{asked_rows, asked_key}

@@ -2,7 +2,7 @@
 -- read once.
 use Rattle.std.specs.Prelude.{ℕ, List, [], ◌∷◌, ◌++◌, map}
 use Rattle.rls_value.specs.declared.value.Value.{Value}
-use Rattle.rls_expr.specs.Terms.{Term}
+use Rattle.rls_guard.specs.rls_catalog.specs.rls_expr.specs.Terms.{Term}
 use Rattle.rls_guard.specs.rls_catalog.specs.declared.stored.Stored.{Stored}
 use Rattle.rls_evaluation.specs.rls_source.specs.Askings.{Asking}
 use Rattle.rls_evaluation.specs.rls_source.specs.Once.{each_once}

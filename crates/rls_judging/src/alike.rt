@@ -5,8 +5,8 @@ ghost use Rattle.rls_judging.specs.Alike.{AreAlike, decided_by};
 
 use rls_evaluation::SecurityQuals;
 use rls_evaluation::rls_equality::Same;
-use rls_expr::{Expr, Policy};
 use rls_guard::rls_catalog::Verdict;
+use rls_guard::rls_catalog::rls_expr::{Expr, Policy};
 use rls_guard::{Decision, RowCheck};
 use rls_value::{Reference, RowId};
 use std::alloc::AllocError;

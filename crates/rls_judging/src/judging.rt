@@ -1,7 +1,7 @@
 //! What row security says of rows, and the qualifying rows of a statement.
 
 ghost use Rattle.std.specs.Prelude.{◌≡◌, [], ◌∷◌, ◌++◌, ◌&&◌, IsTrue, OnOk};
-ghost use Rattle.rls_expr.specs.Terms.{maybe_term};
+ghost use Rattle.rls_guard.specs.rls_catalog.specs.rls_expr.specs.Terms.{maybe_term};
 ghost use Rattle.rls_evaluation.specs.rls_source.specs.{Answering.Tells as Reading, Askings.followed_by, Askings.known};
 ghost use Rattle.rls_evaluation.specs.{Holding.Holds, Holding.Evaluates, Showing.shows};
 ghost use Rattle.rls_judging.specs.Handed.{EvaluatesAt, allowing, behind, beside, items_now, judged_now, rows_borrowed};
@@ -15,7 +15,7 @@ use rls_evaluation::{
     Env, ExecutionState, Looked, Scoped, Tables, VisibleRelations, allows, meets_condition,
     verdict_on,
 };
-use rls_expr::Expr;
+use rls_guard::rls_catalog::rls_expr::Expr;
 use rls_guard::rls_catalog::{BorrowedRow, Stored};
 use rls_guard::{Decision, Judgement, RowCheck};
 use rls_value::{Row, RowId};

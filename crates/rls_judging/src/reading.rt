@@ -8,8 +8,8 @@ ghost use Rattle.rls_judging.specs.ScannedRows as spec;
 
 use rls_evaluation::rls_source::{Reads, RowSource, noted_key, noted_scan};
 use rls_evaluation::{Env, Scoped, key_of};
-use rls_expr::{Expr, FromTable};
 use rls_guard::rls_catalog::BorrowedRow;
+use rls_guard::rls_catalog::rls_expr::{Expr, FromTable};
 use rls_value::{Items, Name, Row, Value};
 use std::alloc::{AllocError, Global};
 

@@ -11,8 +11,8 @@ use rls_evaluation::rls_source::{Reads, RowSource};
 use rls_evaluation::{
     Datum, Env, ExecutionState, Looked, Scoped, SecuredRelation, Tables, VisibleRelations, eval,
 };
-use rls_expr::Expr;
 use rls_guard::rls_catalog::BorrowedRow;
+use rls_guard::rls_catalog::rls_expr::Expr;
 use rls_value::{Items, Name};
 use std::alloc::{AllocError, Global};
 

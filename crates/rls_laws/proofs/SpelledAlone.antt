@@ -2,10 +2,10 @@
 use Rattle.std.specs.Prelude.{◌≡◌, List, Some}
 use Rattle.rls_statement.specs.declared.command.Command.{Command}
 use Rattle.rls_statement.specs.declared.statement.Statement.{Statement}
-use Rattle.rls_check.specs.rls_audit.specs.rls_text.specs.{Commands.SpellsCommand, Grammar.Spells, declared.token.Token.Token}
-use Rattle.rls_check.specs.rls_audit.specs.rls_text.proofs.{Laws.one_statement, CommandLaws.one_command}
-use Rattle.rls_check.specs.rls_audit.specs.rls_printing.specs.{OutputTokens.tokens_of, StatementForms.statement, CommandForms.command}
-use Rattle.rls_check.specs.rls_audit.specs.rls_printing.proofs.{Printed.tokens_spell, PrintedCommands.words_spell}
+use Rattle.rls_audit.specs.rls_text.specs.{Commands.SpellsCommand, Grammar.Spells, declared.token.Token.Token}
+use Rattle.rls_audit.specs.rls_text.proofs.{Laws.one_statement, CommandLaws.one_command}
+use Rattle.rls_audit.specs.rls_printing.specs.{OutputTokens.tokens_of, StatementForms.statement, CommandForms.command}
+use Rattle.rls_audit.specs.rls_printing.proofs.{Printed.tokens_spell, PrintedCommands.words_spell}
 
 -- A statement that some text spells is spelled by its printed words,
 pub statement_spelled : (x : Statement) (original tokens : List Token) → Spells original x → tokens_of (statement x) ≡ Some tokens → Spells tokens x

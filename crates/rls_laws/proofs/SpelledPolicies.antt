@@ -9,15 +9,15 @@ use Rattle.rls_value.specs.declared.verb.PolicyKind.{PolicyKind}
 use Rattle.rls_value.specs.declared.verb.PolicyKind.TheVariants as kind
 use Rattle.rls_value.specs.declared.verb.Kind.TheVariants as k
 use Rattle.rls_expr.specs.{Terms.Term, declared.policy.Grantee.Grantee, declared.policy.Policy.Policy}
-use Rattle.rls_check.specs.rls_meaning.specs.rls_guard.specs.rls_catalog.specs.PolicyLists.{InNameOrder, is_after, is_named, with_policy, with_replaced, without_policy}
+use Rattle.rls_meaning.specs.rls_guard.specs.rls_catalog.specs.PolicyLists.{InNameOrder, is_after, is_named, with_policy, with_replaced, without_policy}
 use Rattle.rls_statement.specs.{declared.statement.AlterPolicy.AlterPolicy, declared.statement.CreatePolicy.CreatePolicy}
 use Rattle.rls_statement.specs.declared.statement.Statement.TheVariants as st
-use Rattle.rls_check.specs.rls_meaning.specs.rls_ddl.specs.AlteringPolicies.{altered, has_no_place_for, with_altered}
-use Rattle.rls_check.specs.rls_meaning.specs.rls_ddl.proofs.PolicyOrderLaws.{altered_is_replaced}
-use Rattle.rls_check.specs.rls_audit.specs.rls_text.specs.declared.token.Token.{Token}
-use Rattle.rls_check.specs.rls_audit.specs.rls_text.specs.Grammar as g
-use Rattle.rls_check.specs.rls_audit.specs.rls_text.specs.Values.{may_have, or_public}
-use Rattle.rls_check.specs.rls_audit.specs.Showing.{IsPolicySpellable, IsSpellable}
+use Rattle.rls_meaning.specs.rls_ddl.specs.AlteringPolicies.{altered, has_no_place_for, with_altered}
+use Rattle.rls_meaning.specs.rls_ddl.proofs.PolicyOrderLaws.{altered_is_replaced}
+use Rattle.rls_audit.specs.rls_text.specs.declared.token.Token.{Token}
+use Rattle.rls_audit.specs.rls_text.specs.Grammar as g
+use Rattle.rls_audit.specs.rls_text.specs.Values.{may_have, or_public}
+use Rattle.rls_audit.specs.Showing.{IsPolicySpellable, IsSpellable}
 use Rattle.rls_laws.proofs.PolicyTexts.{ChangeParts, Condition, Phrase, PolicyParts, altered_parts, created_parts, mapped_of, parts_spell}
 
 -- ---- one policy

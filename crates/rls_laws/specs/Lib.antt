@@ -4,4 +4,3 @@ pub mod Spelled
 pub mod Walks
 pub mod Subqueries
 pub mod Reads
-pub use Rattle.rls_check

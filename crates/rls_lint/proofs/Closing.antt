@@ -4,7 +4,7 @@ use Rattle.std.proofs.Common.{ap, sym, ◌∙◌}
 use Rattle.rls_value.specs.declared.refusal.Refusal.{Refusal}
 use Rattle.rls_value.specs.declared.refusal.Refusal.TheVariants.{Recursion}
 use Rattle.rls_catalog.specs.State.{State}
-use Rattle.rls_meaning.specs.rls_depth.specs.rls_expansion.specs.declared.expansion.PolicyExpansion.{PolicyExpansion}
+use Rattle.rls_meaning.specs.rls_expansion.specs.declared.expansion.PolicyExpansion.{PolicyExpansion}
 use Rattle.rls_meaning.specs.Commands.{Command, closing_in}
 use Rattle.rls_meaning.specs.Expanding.{IsExpanded, Made, Refused, expansion_in}
 

@@ -8,7 +8,7 @@ ghost use Rattle.rls_catalog.specs.{State.State, State.policies_of, State.table_
 ghost use Rattle.rls_catalog.specs.declared.verdict.Side.TheVariants as side;
 ghost use Rattle.rls_catalog.specs.declared.verdict.Verdict.TheVariants as verdict;
 ghost use Rattle.rls_meaning.specs.rls_guard.specs.rls_evaluation.specs.{Environments.Environment, Showing.allows};
-ghost use Rattle.rls_meaning.specs.rls_depth.specs.rls_expansion.specs.Expanding.{judges_new};
+ghost use Rattle.rls_meaning.specs.rls_expansion.specs.Expanding.{judges_new};
 ghost use Rattle.rls_meaning.specs.{Commands.Command, Commands.permitted_in, Evaluating.Shown, Showing.shows, Showing.verdict_in};
 ghost use Rattle.rls_lint.specs.declared.finding.Lookup.TheVariants as lookup;
 ghost use Rattle.rls_lint.specs.{Commands.is_denied, Commands.side_of, Lookups.is_blind, Lookups.is_misled, Lookups.readings_for, Loops.closed_for, Loops.command_of, Nulls.IsNever, Nulls.nulls_of, PolicyMistakes.has_true_check, TableMistakes.is_unbound};

@@ -14,8 +14,8 @@ use Rattle.rls_catalog.specs.{Membership.fresh, Membership.Within, State.State, 
 use Rattle.rls_catalog.specs.declared.verdict.Side.TheVariants as side
 use Rattle.rls_catalog.proofs.Inheriting.{fresh_within}
 use Rattle.rls_recursion.specs.Searching.{or_next, first_closed}
-use Rattle.rls_depth.specs.rls_expansion.specs.{Expanding.asks_of, Used.is_for_check, Used.is_for_using, Used.tables_asked, Used.tables_if, Used.tables_where, Used.using_stands_in}
-use Rattle.rls_depth.proofs.Walking.{fresh_all}
+use Rattle.rls_expansion.specs.{Expanding.asks_of, Used.is_for_check, Used.is_for_using, Used.tables_asked, Used.tables_if, Used.tables_where, Used.using_stands_in}
+use Rattle.rls_meaning.proofs.Walking.{fresh_all}
 use Rattle.rls_meaning.specs.{Commands.Command, Commands.own_of, Commands.reads, Commands.tables_for, Parts.tables_of}
 use Rattle.rls_meaning.proofs.{Listing.fresh_append, Listing.fresh_none, Listing.last_cases, Parts.tables_if_told}
 

@@ -13,9 +13,9 @@ use Rattle.rls_catalog.specs.{Membership.Within, Privileges.includes, State.Stat
 use Rattle.rls_catalog.specs.declared.verdict.Side.TheVariants as side
 use Rattle.rls_guard.specs.rls_source.specs.Sequences.{each_or_refused}
 use Rattle.rls_guard.specs.{declared.role_privileges.RolePrivileges.RolePrivileges, RolePrivileges.has_owner, RolePrivileges.role_privileges_in}
-use Rattle.rls_depth.specs.rls_expansion.specs.{Expanding.asks_of, Expanding.own_selected, Selected.selected_asked, Selected.selected_used, Selected.selected_where, Used.Ask, Used.is_for_check, Used.is_for_using, Used.tables_asked, Used.tables_where, Used.using_stands_in}
-use Rattle.rls_depth.specs.Deep.{policies_in}
-use Rattle.rls_depth.proofs.{Resolving.SameKnown, Tables.within_first, Tables.within_last}
+use Rattle.rls_expansion.specs.{Expanding.asks_of, Expanding.own_selected, Selected.selected_asked, Selected.selected_used, Selected.selected_where, Used.Ask, Used.is_for_check, Used.is_for_using, Used.tables_asked, Used.tables_where, Used.using_stands_in}
+use Rattle.rls_meaning.specs.Deep.{policies_in}
+use Rattle.rls_meaning.proofs.{ResolvingQuals.SameKnown, Tables.within_first, Tables.within_last}
 use Rattle.rls_meaning.specs.{Chains.selected_in, Commands.Command, Commands.own_selected_of, Commands.reads, Commands.selected_for}
 use Rattle.rls_meaning.proofs.{Asking.also_once, Asking.also_twice, Asking.asked_in, Asking.never_once, Asking.never_twice, Listing.Test, Listing.each_append, Selected.if_selected_same, Selected.selected_at}
 

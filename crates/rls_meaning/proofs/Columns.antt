@@ -8,7 +8,7 @@ use Rattle.rls_expr.specs.{Scopes.InScope, Selecting.columns_of as machine_colum
 use Rattle.rls_expr.proofs.SelectingLaws.{selected_tables}
 use Rattle.rls_statement.specs.declared.statement.Selected.{Selected}
 use Rattle.rls_statement.specs.declared.statement.Selected.TheVariants as selected
-use Rattle.rls_depth.specs.rls_expansion.specs.Used.{all_tables, tables_if}
+use Rattle.rls_expansion.specs.Used.{all_tables, tables_if}
 use Rattle.rls_access.specs.rls_dml.specs.{declared.analysed_update.AnalysedUpdate.AnalysedUpdate, Checking.columns_read, Checking.returning_terms, Checking.returns_all, Checking.selection_terms, Checking.selects_all, Checking.where_selected, Inserting.tuple_selected, Inserting.tuples_selected, Inserting.tuples_tables, Updating.analysed_update_tables, Updating.assignments_selected, Updating.update_selected}
 use Rattle.rls_meaning.specs.{Analysing.columns_in, Analysing.is_all, Analysing.items_of, Parts.columns_of, Updating.set_and_where}
 use Rattle.rls_meaning.proofs.{Listing.flat_append, Listing.tables, Parts.mentions_told, Selected.tables_append}

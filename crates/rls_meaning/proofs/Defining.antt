@@ -19,7 +19,7 @@ use Rattle.rls_guard.specs.{declared.context.Ctx.Ctx, declared.effect.Effect.Eff
 use Rattle.rls_guard.specs.rls_grant.specs.Granting.{own_grants}
 use Rattle.rls_access.specs.rls_ddl.specs.{AlteringPolicies.alter_policy, AlteringPolicies.alteration_made, AlteringPolicies.alteration_of, AlteringPolicies.alteration_on, AlteringPolicies.alteration_over, AlteringPolicies.conditions_or_refused, AlteringPolicies.has_no_place_for, AlteringPolicies.resolved_or_unsupported, AlteringPolicies.roles_or_undefined, AlteringPolicies.with_altered, AlteringRoles.alter_role, AlteringRoles.role_altered, AlteringRoles.role_changed, AlteringTables.alter_table, AlteringTables.altered, Conditions.both_conditions, Conditions.condition_fits, Conditions.condition_names, Conditions.is_supported}
 use Rattle.rls_access.specs.rls_ddl.specs.{CreatingPolicies.create_policy, CreatingPolicies.new_or_duplicate, CreatingPolicies.room_for_policy, CreatingPolicies.policy_added, CreatingPolicies.policy_made, CreatingPolicies.policy_on, CreatingPolicies.policy_or_refused, CreatingRoles.create_role, CreatingRoles.role_made, CreatingTables.column_in, CreatingTables.create_table, CreatingTables.key_names, CreatingTables.key_or_undefined, CreatingTables.place_of, CreatingTables.table_made, CreatingTables.table_unless_taken, CreatingTables.table_with, DroppingPolicies.drop_on, DroppingPolicies.drop_policy, DroppingPolicies.policy_dropped, NamedPolicies.policy_or_undefined, SettingRoles.may_set, SettingRoles.role_set, SettingRoles.set_or_denied, SettingRoles.set_role, SettingRoles.sets}
-use Rattle.rls_depth.proofs.{Tables.within_first, Tables.within_last}
+use Rattle.rls_meaning.proofs.{Tables.within_first, Tables.within_last}
 use Rattle.rls_meaning.specs.{Analysing.checked, Analysing.of_condition, Analysing.place_in, Naming.grantees_in, Naming.named_in, Naming.provided, Parts.found_in, Parts.names_in, Parts.tables_of, Policies.alter_policy_in, Policies.conditions, Policies.conditions_in, Policies.create_policy_in, Policies.drop_policy_in, Resolving.resolved as state_resolved, Roles.alter_role_in, Roles.create_role_in, Roles.set_role_in, Roles.superuser_in, Tables.alter_table_in, Tables.create_table_in, Tables.owner_in}
 use Rattle.rls_meaning.proofs.{Granting.put_told, NamedParts.all_names_told, NamedParts.names-append, NamedParts.where_names_told, Naming.grantees_told, Naming.named_told, Naming.role_told, Naming.table_told, Parts.unsupported_told, Resolving.resolved_told, Typing.boolean_told}
 

@@ -10,8 +10,8 @@ use Rattle.rls_guard.specs.rls_source.specs.{Readings.read_then, Readings.unread
 use Rattle.rls_statement.specs.{declared.statement.Insert.Insert}
 use Rattle.rls_guard.specs.rls_evaluation.specs.{Environments.Environment, Environments.alone, Eval.Shows, Eval.value_of, Gathering.gathered, Showing.shows}
 use Rattle.rls_guard.specs.{declared.context.Ctx.Ctx, declared.effect.Effect.Effect, declared.reply.Decision.Decision, Effects.shown, RolePrivileges.role_privileges_in}
-use Rattle.rls_depth.specs.rls_expansion.specs.{declared.expansion.PolicyExpansion.PolicyExpansion, Expanding.permission_checks, Used.all_tables, Used.tables_of}
-use Rattle.rls_depth.proofs.{Tables.within_first, Tables.within_last}
+use Rattle.rls_expansion.specs.{declared.expansion.PolicyExpansion.PolicyExpansion, Expanding.permission_checks, Used.all_tables, Used.tables_of}
+use Rattle.rls_meaning.proofs.{Tables.within_first, Tables.within_last}
 use Rattle.rls_access.specs.rls_judging.specs.{Valuing.values_on, Valuing.values_put, Valuing.with_values}
 use Rattle.rls_access.specs.rls_dml.specs.{declared.analysed_insert.AnalysedInsert.AnalysedInsert, Checking.returning_names, Inserting.analysed_insert_for, Inserting.analysed_insert_in, Inserting.insert_as, Inserting.insert_columns, Inserting.insert_columns_read, Inserting.tuples_selected, Inserting.insert_with_quals, Inserting.insert_into, Inserting.insert_judged, Inserting.insert_made, Inserting.insert_rows as insert_new, Inserting.insert_values, Inserting.inserted as machine_inserted, Inserting.new_rows, Inserting.numbered, Inserting.places_of, Inserting.row_of_tuple as machine_row, Inserting.tuples_names, Inserting.tuples_tables, Writing.checks_of, Writing.each_with, Writing.order_of}
 use Rattle.rls_access.specs.{Statements.mode_or_refused}

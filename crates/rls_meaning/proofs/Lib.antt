@@ -1,3 +1,14 @@
+pub mod Tables
+pub mod Agreeing
+pub mod Using
+pub mod Deepening
+pub mod DependencyLaws
+pub mod Walking
+pub mod ResolvingQuals
+pub mod Reaching
+pub mod Stating
+pub mod ExpansionLaws
+pub mod DepthExamples
 pub mod Typing
 pub mod Naming
 pub mod Parts

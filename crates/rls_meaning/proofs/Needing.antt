@@ -8,9 +8,9 @@ use Rattle.rls_catalog.specs.{Membership.Within, State.State}
 use Rattle.rls_guard.specs.rls_source.specs.Sequences.{each_or_refused}
 use Rattle.rls_guard.specs.{RolePrivileges.role_privileges_in}
 use Rattle.rls_recursion.specs.{declared.dependency.PolicyDependency.PolicyDependency, Listings.leads_of, Listings.list_from, Listings.listed, Listings.no_listing, Searching.InOrder, Searching.subquery_tables_of, Searching.tables_in}
-use Rattle.rls_depth.specs.rls_expansion.specs.{Expanding.own_selected, Relations.known_in, Selected.subqueries_in}
-use Rattle.rls_depth.specs.{Deep.policies_in, Leading.using_tables}
-use Rattle.rls_depth.proofs.{Stating.same_known, Tables.within_all, Tables.within_first, Walking.AreRead, Walking.dependency_found}
+use Rattle.rls_expansion.specs.{Expanding.own_selected, Relations.known_in, Selected.subqueries_in}
+use Rattle.rls_meaning.specs.{Deep.policies_in, Leading.using_tables}
+use Rattle.rls_meaning.proofs.{Stating.same_known, Tables.within_all, Tables.within_first, Walking.AreRead, Walking.dependency_found}
 use Rattle.rls_meaning.specs.{Chains.select_policies, Chains.selected_tables_in, Commands.Command, Commands.depth_of, Commands.needed_in, Commands.own_selected_of, Commands.query_tables, Commands.reads, Needing.Follows, Needing.needed_by}
 use Rattle.rls_meaning.proofs.{Asking.asked_in, AskingSelected.PassAlike, AskingSelected.own_selected_told, AskingSelected.pass_append, Dependencies.Same, Dependencies.in_order_few, Dependencies.same_dependencies, Dependencies.tables_few, Listing.Test, Listing.each_append, Listing.flat_selected_same, Listing.listed_is_needed, Listing.tables, Orders.order_follows, Selected.leads_named, Selected.leads_told, Selected.needed_same, Selected.own_named, Selected.tables_append, States.lead_told, States.leaf_leads, States.own_told}
 

@@ -11,7 +11,7 @@ use Rattle.rls_expr.specs.Resolving as machine
 use Rattle.rls_expr.specs.Terms.{Term, Terms, Query, Literal, Column, Var, CurrentUser, Compare, And, Or, Not, IsNull, IsNotNull, InList, NotInList, Exists, InSubquery, NotInSubquery, Scalar, Sum, End, More, Select, qualifier_of}
 use Rattle.rls_catalog.specs.{Membership.Within, State.State, State.table_of}
 use Rattle.rls_catalog.proofs.Walks.{bytes_same}
-use Rattle.rls_depth.proofs.{Resolving.SameKnown, Resolving.over_known, Resolving.resolved_same, Resolving.state_table, Tables.within_first, Tables.within_last}
+use Rattle.rls_meaning.proofs.{ResolvingQuals.SameKnown, ResolvingQuals.over_known, ResolvingQuals.resolved_same, ResolvingQuals.state_table, Tables.within_first, Tables.within_last}
 use Rattle.rls_meaning.specs.Parts.{found_in, tables_of}
 use Rattle.rls_meaning.proofs.Parts.{tables_told}
 use Rattle.rls_meaning.specs.Resolving.{items_of, query_resolved, resolved, resolved_all}

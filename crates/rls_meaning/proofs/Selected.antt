@@ -11,9 +11,9 @@ use Rattle.rls_expr.proofs.SelectingLaws.{selected_tables}
 use Rattle.rls_catalog.specs.{Applying.applying_on, declared.verdict.Side.Side, Membership.Within, Privileges.includes, State.State, State.policies_of, State.table_of, Verdict.chosen, Verdict.exempts}
 use Rattle.rls_guard.specs.{declared.role_privileges.RolePrivileges.RolePrivileges, Naming.names_over, RolePrivileges.has_owner, RolePrivileges.role_privileges_in}
 use Rattle.rls_recursion.specs.{declared.dependency.PolicyDependency.PolicyDependency, Listings.leads_of, Searching.dependency_in}
-use Rattle.rls_depth.specs.rls_expansion.specs.{Dependencies.dependency_by, Expanding.asks_of, Expanding.own_selected, Expanding.own_tables, Selected.selected_asked, Selected.selected_by, Selected.selected_if, Selected.selected_of_table, Selected.selected_read, Selected.selected_used, Selected.selected_where, Selected.subqueries_in, Used.Ask, Used.entered, Used.is_for_check, Used.is_for_using, Used.tables_asked, Used.tables_by, Used.tables_if, Used.tables_used, Used.tables_where}
-use Rattle.rls_depth.specs.{Leading.using_tables}
-use Rattle.rls_depth.proofs.{Resolving.SameKnown, Resolving.over_known, Resolving.resolved_same, Tables.first_part, Tables.last_part, Tables.query_condition, Tables.query_items, Tables.query_table, Tables.resolved_tables, Tables.within_append, Tables.within_first, Tables.within_last, Tables.within_nothing, Walking.dependency_at, Walking.dependency_for}
+use Rattle.rls_expansion.specs.{Dependencies.dependency_by, Expanding.asks_of, Expanding.own_selected, Expanding.own_tables, Selected.selected_asked, Selected.selected_by, Selected.selected_if, Selected.selected_of_table, Selected.selected_read, Selected.selected_used, Selected.selected_where, Selected.subqueries_in, Used.Ask, Used.entered, Used.is_for_check, Used.is_for_using, Used.tables_asked, Used.tables_by, Used.tables_if, Used.tables_used, Used.tables_where}
+use Rattle.rls_meaning.specs.{Leading.using_tables}
+use Rattle.rls_meaning.proofs.{ResolvingQuals.SameKnown, ResolvingQuals.over_known, ResolvingQuals.resolved_same, Tables.first_part, Tables.last_part, Tables.query_condition, Tables.query_items, Tables.query_table, Tables.resolved_tables, Tables.within_append, Tables.within_first, Tables.within_last, Tables.within_nothing, Walking.dependency_at, Walking.dependency_for}
 use Rattle.rls_meaning.specs.{Chains.selected_in, Chains.selected_tables_in, Chains.select_policies, Needing.needed_by}
 use Rattle.rls_meaning.proofs.{Listing.flat_selected_same, Listing.tables, Resolving.state_resolved_told}
 

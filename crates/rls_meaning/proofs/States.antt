@@ -11,9 +11,9 @@ use Rattle.rls_catalog.specs.{Applying.applying_on, declared.verdict.Side.Side, 
 use Rattle.rls_guard.specs.{declared.role_privileges.RolePrivileges.RolePrivileges, RolePrivileges.role_privileges_in, RolePrivileges.has_owner}
 use Rattle.rls_recursion.specs.{declared.dependency.PolicyDependency.PolicyDependency, Searching.has_subquery_of, Searching.subquery_tables_of, Searching.subquery_tables_in as subquery_tables_at, Searching.has_subquery_in as has_subquery_at, Searching.dependency_in}
 use Rattle.rls_recursion.proofs.Closing.{one_first}
-use Rattle.rls_depth.specs.rls_expansion.specs.{Expanding.asks_of, Expanding.own_tables, Dependencies.reading, Dependencies.dependency_by, Used.Ask, Used.has_query_if, Used.holds_subquery, Used.tables_asked, Used.tables_if, Used.tables_used, Used.tables_where}
-use Rattle.rls_depth.specs.{Deep.policies_in, Leading.using_tables}
-use Rattle.rls_depth.proofs.{DependencyLaws.by_leads, Walking.dependency_at, Walking.dependency_for}
+use Rattle.rls_expansion.specs.{Expanding.asks_of, Expanding.own_tables, Dependencies.reading, Dependencies.dependency_by, Used.Ask, Used.has_query_if, Used.holds_subquery, Used.tables_asked, Used.tables_if, Used.tables_used, Used.tables_where}
+use Rattle.rls_meaning.specs.{Deep.policies_in, Leading.using_tables}
+use Rattle.rls_meaning.proofs.{DependencyLaws.by_leads, Walking.dependency_at, Walking.dependency_for}
 use Rattle.rls_meaning.specs.{Chains.has_subquery_in, Chains.select_policies, Chains.subquery_tables_in, Commands.Command, Commands.reads, Parts.has_query, Parts.tables_of}
 use Rattle.rls_meaning.proofs.{Asking.asked_in, Parts.has_query_if_told, Parts.tables_if_told}
 

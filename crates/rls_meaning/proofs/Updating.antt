@@ -10,8 +10,8 @@ use Rattle.rls_guard.specs.rls_source.specs.{Sequences.each_of}
 use Rattle.rls_statement.specs.{declared.changing.Update.Update}
 use Rattle.rls_guard.specs.rls_evaluation.specs.{Environments.over, Showing.shows}
 use Rattle.rls_guard.specs.{declared.effect.Effect.Effect, declared.reply.Decision.Decision, Effects.shown, RolePrivileges.role_privileges_in}
-use Rattle.rls_depth.specs.rls_expansion.specs.{declared.expansion.PolicyExpansion.PolicyExpansion, Expanding.permission_checks, Used.all_tables, Used.tables_if}
-use Rattle.rls_depth.proofs.{Tables.within_first, Tables.within_last}
+use Rattle.rls_expansion.specs.{declared.expansion.PolicyExpansion.PolicyExpansion, Expanding.permission_checks, Used.all_tables, Used.tables_if}
+use Rattle.rls_meaning.proofs.{Tables.within_first, Tables.within_last}
 use Rattle.rls_access.specs.rls_judging.specs.{ScannedRows.scanned_rows_with, ScannedRows.pinned_key, Judging.judged_all, Valuing.values_on, Valuing.values_set, Valuing.with_row_values}
 use Rattle.rls_access.specs.rls_dml.specs.{declared.analysed_update.AnalysedUpdate.AnalysedUpdate, Updating.places_set, Updating.analysed_update_for, Updating.analysed_update_in, Updating.analysed_update_names, Updating.analysed_update_tables, Updating.update_columns, Updating.update_columns_read, Updating.update_selected, Updating.update_as, Updating.update_with_quals, Updating.update_qualifying_rows, Updating.update_in as update_of, Updating.update_judged, Updating.update_made, Updating.update_rows as update_new, Updating.update_values, Updating.changed_row, Updating.changed_rows, Updating.updated as machine_updated, Updating.updated_row, Updating.updated_rows, Writing.checks_of, Writing.order_of}
 use Rattle.rls_access.specs.{Statements.mode_or_refused}

@@ -22,10 +22,11 @@ pub mod Policies
 pub mod Privileges
 pub mod Memberships
 pub mod Meaning
+pub mod Deep
+pub mod Leading
 pub mod Expanding
 pub use Rattle.rls_access
 pub use Rattle.rls_access.specs.rls_ddl
 pub use Rattle.rls_access.specs.rls_dml
-pub use Rattle.rls_depth
-pub use Rattle.rls_depth.specs.rls_expansion
+pub use Rattle.rls_expansion
 pub use Rattle.rls_guard

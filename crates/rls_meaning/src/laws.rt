@@ -10,7 +10,7 @@ ghost use Rattle.rls_guard.specs.rls_grant.specs.{Granting.goes_back, Holders.ho
 ghost use Rattle.rls_meaning.specs.{Commands.Command, Needing.ListedIsNeeded, Expanding.IsExpanded};
 ghost use Rattle.rls_meaning.specs.{Deleting.DeleteMeans, Inserting.InsertMeans, Meaning.StatementMeans, Selecting.SelectMeans, Updating.UpdateMeans};
 
-use rls_depth::{policy_expansion_means, role_means};
+use crate::depth::{policy_expansion_means, role_means};
 use rls_guard::rls_grant::grantor_means;
 use rls_guard::rls_role::memberships_mean;
 use rls_recursion::search_means;

@@ -1,17 +1,17 @@
 -- What commands write and answer, from what they do over devices.
 use Rattle.std.proofs.Common.{◌≡◌, refl, ◌++◌, ◌∷◌, [], ℕ, Bool, true, false, List, Option, Some, None, is_some, sym, ap, subst, ◌∙◌, append-nil, append_assoc}
 use Rattle.std.specs.Borrow.{Bor}
-use Rattle.rls_laws.specs.rls_check.specs.rls_meaning.specs.rls_guard.specs.rls_catalog.specs.rls_value.specs.declared.row.RowId.{RowId}
-use Rattle.rls_laws.specs.rls_check.specs.rls_audit.specs.rls_core.specs.Records.{Record}
-use Rattle.rls_laws.specs.rls_check.specs.rls_audit.specs.Printed.{texts_of}
-use Rattle.rls_laws.specs.rls_check.specs.declared.audit.Audit.{Audit}
-use Rattle.rls_laws.specs.rls_check.specs.declared.finding.Finding.{Finding}
-use Rattle.rls_laws.specs.rls_check.specs.declared.explaining.Why.{Why}
-use Rattle.rls_laws.specs.rls_check.specs.declared.converting.Converter.{Converter}
-use Rattle.rls_laws.specs.rls_check.specs.Wholes.{AreConverted, HasConverted, IsAuditOf}
-use Rattle.rls_laws.specs.rls_check.specs.Checking.{IsFirst}
-use Rattle.rls_laws.specs.rls_check.specs.Explaining.{IsExplained}
-use Rattle.rls_laws.specs.rls_check.specs.Findings.{finding_text}
+use Rattle.rls_check.specs.rls_meaning.specs.rls_guard.specs.rls_catalog.specs.rls_value.specs.declared.row.RowId.{RowId}
+use Rattle.rls_check.specs.rls_audit.specs.rls_core.specs.Records.{Record}
+use Rattle.rls_check.specs.rls_audit.specs.Printed.{texts_of}
+use Rattle.rls_check.specs.declared.audit.Audit.{Audit}
+use Rattle.rls_check.specs.declared.finding.Finding.{Finding}
+use Rattle.rls_check.specs.declared.explaining.Why.{Why}
+use Rattle.rls_check.specs.declared.converting.Converter.{Converter}
+use Rattle.rls_check.specs.Wholes.{AreConverted, HasConverted, IsAuditOf}
+use Rattle.rls_check.specs.Checking.{IsFirst}
+use Rattle.rls_check.specs.Explaining.{IsExplained}
+use Rattle.rls_check.specs.Findings.{finding_text}
 use Rattle.rls_session.specs.rls_script.specs.Streams.{GrewBy}
 use Rattle.rlsdb.specs.Answers.{IsAudited, IsCheckOfOne, IsMigrationOf, IsOrderOf, IsRunText, IsWhyOf, IsWithAudit, RunsGiven, checked_text, is_yes, order_text, why_text}
 use Rattle.rlsdb.specs.AuditLines.{Reads, WritesAudit, ended_lines}

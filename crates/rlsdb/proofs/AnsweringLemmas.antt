@@ -5,8 +5,8 @@ use Rattle.std.proofs.lemmas.List.{take-map, take_all}
 use Rattle.std.proofs.lemmas.Slice.Eq.{bytes_eq-Decides}
 use Rattle.std.specs.List.{All}
 use Rattle.std.specs.Str.{bytes_eq}
-use Rattle.rls_laws.specs.rls_check.specs.rls_audit.specs.Showing.{AreTexts}
-use Rattle.rls_laws.specs.rls_check.specs.rls_audit.specs.rls_core.specs.Records.{Record}
+use Rattle.rls_check.specs.rls_audit.specs.Showing.{AreTexts}
+use Rattle.rls_check.specs.rls_audit.specs.rls_core.specs.Records.{Record}
 use Rattle.rls_session.specs.Scripts.{IsScriptText, RunsScript}
 use Rattle.rls_session.specs.rls_engine.specs.Views.{Closed}
 use Rattle.rls_session.specs.rls_script.specs.Streams.{GrewBy}

@@ -3,13 +3,13 @@ use Rattle.std.proofs.Common.{◌≡◌, refl, ◌+◌, ◌<◌, ◌++◌, ◌�
 use Rattle.std.proofs.Math.Seq.{drop-cons}
 use Rattle.std.proofs.lemmas.List.Elements.{All-get_or}
 use Rattle.std.specs.List.{All, AllZip}
-use Rattle.rls_laws.specs.rls_check.specs.rls_audit.specs.declared.lines.Line.{Line}
-use Rattle.rls_laws.specs.rls_check.specs.rls_audit.specs.declared.lines.Line.TheVariants as line
-use Rattle.rls_laws.specs.rls_check.specs.rls_audit.specs.Lines as shown
-use Rattle.rls_laws.specs.rls_check.specs.rls_audit.specs.Reading.{line_found, line_text}
-use Rattle.rls_laws.specs.rls_check.specs.rls_audit.specs.Shows.{Means, ShowsLine}
-use Rattle.rls_laws.specs.rls_check.specs.rls_audit.specs.Showing.{AreTexts}
-use Rattle.rls_laws.specs.rls_check.specs.rls_audit.specs.rls_core.specs.{Events.World, Headline.AreExplained, Headline.HaveOrder, Seen.world_of}
+use Rattle.rls_check.specs.rls_audit.specs.declared.lines.Line.{Line}
+use Rattle.rls_check.specs.rls_audit.specs.declared.lines.Line.TheVariants as line
+use Rattle.rls_check.specs.rls_audit.specs.Lines as shown
+use Rattle.rls_check.specs.rls_audit.specs.Reading.{line_found, line_text}
+use Rattle.rls_check.specs.rls_audit.specs.Shows.{Means, ShowsLine}
+use Rattle.rls_check.specs.rls_audit.specs.Showing.{AreTexts}
+use Rattle.rls_check.specs.rls_audit.specs.rls_core.specs.{Events.World, Headline.AreExplained, Headline.HaveOrder, Seen.world_of}
 use Rattle.rls_laws.specs.Spelled.{StatementsAreTexts}
 use Rattle.rls_session.specs.{rls_engine.specs.Views.Closed, rls_script.specs.Spelled.IsSpellable}
 use Rattle.rlsdb.specs.AuditLines.{WritesLine, WritesTexts, ended_lines}

@@ -2,9 +2,9 @@
 use Rattle.std.proofs.Common.{◌≡◌, ◌≤◌, ◌<◌, ◌-◌, length, take, drop, slice_index_or, arith, refl, ℕ, Bool, true, false, ◌&&◌, not, List, [], ◌∷◌, ◌++◌, Bor, map, nat_lt, sym, ap, subst, ◌∙◌, append_assoc, append-nil}
 use Rattle.std.proofs.lemmas.List.{take_all}
 use Rattle.rls_session.specs.rls_script.specs.Streams.{GrewBy}
-use Rattle.rlsdb.specs.declared.words.Request.{Request}
-use Rattle.rlsdb.specs.declared.words.Request.TheVariants as q
-use Rattle.rlsdb.specs.declared.words.Checks.{Checks}
+use Rattle.rls_command_line.specs.declared.words.Request.{Request}
+use Rattle.rls_command_line.specs.declared.words.Request.TheVariants as q
+use Rattle.rls_command_line.specs.declared.words.Checks.{Checks}
 use Rattle.rlsdb.specs.Answers.{Answers, answered_part, AreChecked, IsCheckOfOne, more, none}
 use Rattle.rlsdb.proofs.AnswerLemmas.{nothing}
 use Rattle.rlsdb.proofs.CommandLemmas.{answered}

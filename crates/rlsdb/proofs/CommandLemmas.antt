@@ -1,19 +1,19 @@
 -- How the program ends, from what was done.
 use Rattle.std.proofs.Common.{◌≡◌, refl, ℕ, Bool, true, false, List, [], Option, Result, Ok, Err, IfOk, inl, inr, sym, ap, subst, ◌∙◌}
 use Rattle.std.specs.Borrow.{Bor}
-use Rattle.rls_laws.specs.rls_check.specs.rls_audit.specs.rls_core.specs.Records.{Record}
+use Rattle.rls_check.specs.rls_audit.specs.rls_core.specs.Records.{Record}
 use Rattle.rls_session.specs.rls_script.specs.Streams.{GrewBy}
+use Rattle.rls_command_line.specs.declared.command_line.Mistake.{Mistake}
+use Rattle.rls_command_line.specs.declared.words.Request.{Request}
+use Rattle.rls_command_line.specs.declared.words.Request.TheVariants as q
+use Rattle.rls_command_line.specs.declared.words.ScriptFile.{ScriptFile}
+use Rattle.rls_command_line.specs.declared.words.Checks.{Checks}
+use Rattle.rls_command_line.specs.declared.words.Explain.{Explain}
+use Rattle.rls_command_line.specs.Words.{is_output, is_output_wanted}
+use Rattle.rls_command_line.specs.CommandLine.{Asks, IsMistaken}
 use Rattle.rlsdb.specs.declared.fault.Fault.{Fault}
-use Rattle.rlsdb.specs.declared.command_line.Mistake.{Mistake}
-use Rattle.rlsdb.specs.declared.words.Request.{Request}
-use Rattle.rlsdb.specs.declared.words.Request.TheVariants as q
-use Rattle.rlsdb.specs.declared.words.ScriptFile.{ScriptFile}
-use Rattle.rlsdb.specs.declared.words.Checks.{Checks}
-use Rattle.rlsdb.specs.declared.words.Explain.{Explain}
 use Rattle.rlsdb.specs.Answers.{Answers, answered_part, IsAudited, IsMigrationOf, IsOrderOf, IsParsed, IsRunAnswer, IsRunText, IsWhyOf, IsWithAudit}
-use Rattle.rlsdb.specs.Words.{is_output, is_output_wanted}
 use Rattle.rlsdb.specs.Commands.{ComesTo, EndsWords}
-use Rattle.rlsdb.specs.CommandLine.{Asks, IsMistaken}
 use Rattle.rlsdb.specs.Faults.{EndsAnswer, EndsMistake}
 use Rattle.rlsdb.proofs.AnswerLemmas.{grew_more, nothing}
 

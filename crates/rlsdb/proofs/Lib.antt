@@ -3,12 +3,9 @@ pub mod AnswerLemmas
 pub mod BookLemmas
 pub mod CheckLemmas
 pub mod CommandLemmas
-pub mod CommandLineLemmas
 pub mod FlawLemmas
 pub mod LineLemmas
 pub mod LintLemmas
 pub mod ParsingLemmas
 pub mod ShownLemmas
-pub mod ShownLineLemmas
 pub mod TestLemmas
-pub mod WordLemmas

@@ -3,31 +3,31 @@ use Rattle.std.proofs.Common.{◌≡◌, refl, ◌++◌, ◌∷◌, [], ◌+◌,
 use Rattle.std.specs.Prelude.{if◌then◌else◌, nat_eq, ◌↔◌}
 use Rattle.std.specs.List.{list_any}
 use Rattle.std.proofs.lemmas.Bool.{false≢true}
-use Rattle.rls_laws.specs.rls_check.specs.rls_meaning.specs.rls_guard.specs.{declared.context.Ctx.Ctx, Effects.changes_of}
-use Rattle.rls_laws.specs.rls_check.specs.rls_meaning.specs.rls_guard.specs.rls_catalog.specs.Changed.{changed_all, opening}
-use Rattle.rls_laws.specs.rls_check.specs.rls_meaning.specs.rls_guard.specs.rls_catalog.specs.State.{State}
-use Rattle.rls_laws.specs.rls_check.specs.rls_audit.specs.rls_core.specs.Alone.{state_alone}
-use Rattle.rls_laws.specs.rls_check.specs.rls_meaning.specs.Meaning.{effect_of}
-use Rattle.rls_laws.specs.rls_check.specs.rls_access.specs.Transactions.{ctx_after}
-use Rattle.rls_laws.specs.rls_check.specs.declared.audit.Audit.{Audit}
-use Rattle.rls_laws.specs.rls_check.specs.declared.finding.Finding.{Finding}
-use Rattle.rls_laws.specs.rls_check.specs.declared.finding.Finding.TheVariants as f
-use Rattle.rls_laws.specs.rls_check.specs.declared.walking.Turn.{Turn}
-use Rattle.rls_laws.specs.rls_check.specs.declared.transaction.Answer.{Answer}
-use Rattle.rls_laws.specs.rls_check.specs.declared.transaction.Transaction.{Transaction}
-use Rattle.rls_laws.specs.rls_check.specs.declared.walking.Walk.{Walk}
-use Rattle.rls_laws.specs.rls_check.specs.Audited.{asked_of, transaction_at}
-use Rattle.rls_laws.specs.rls_check.specs.Checking.{Decided, IsAnswer, IsNoOrder, ctx_of, state_behind}
-use Rattle.rls_laws.specs.rls_check.specs.Walking.{IsNext, IsWalk, Standing, left, standings_alone, standings_along, state_left, state_to_come}
-use Rattle.rls_laws.specs.rls_check.specs.Wholes.{IsAuditOf}
+use Rattle.rls_check.specs.rls_meaning.specs.rls_guard.specs.{declared.context.Ctx.Ctx, Effects.changes_of}
+use Rattle.rls_check.specs.rls_meaning.specs.rls_guard.specs.rls_catalog.specs.Changed.{changed_all, opening}
+use Rattle.rls_check.specs.rls_meaning.specs.rls_guard.specs.rls_catalog.specs.State.{State}
+use Rattle.rls_check.specs.rls_audit.specs.rls_core.specs.Alone.{state_alone}
+use Rattle.rls_check.specs.rls_meaning.specs.Meaning.{effect_of}
+use Rattle.rls_check.specs.rls_access.specs.Transactions.{ctx_after}
+use Rattle.rls_check.specs.declared.audit.Audit.{Audit}
+use Rattle.rls_check.specs.declared.finding.Finding.{Finding}
+use Rattle.rls_check.specs.declared.finding.Finding.TheVariants as f
+use Rattle.rls_check.specs.declared.walking.Turn.{Turn}
+use Rattle.rls_check.specs.declared.transaction.Answer.{Answer}
+use Rattle.rls_check.specs.declared.transaction.Transaction.{Transaction}
+use Rattle.rls_check.specs.declared.walking.Walk.{Walk}
+use Rattle.rls_check.specs.Audited.{asked_of, transaction_at}
+use Rattle.rls_check.specs.Checking.{Decided, IsAnswer, IsNoOrder, ctx_of, state_behind}
+use Rattle.rls_check.specs.Walking.{IsNext, IsWalk, Standing, left, standings_alone, standings_along, state_left, state_to_come}
+use Rattle.rls_check.specs.Wholes.{IsAuditOf}
 use Rattle.rls_lint.specs.declared.named.Named.{Named}
 use Rattle.rls_lint.specs.{Findings.findings_of, Naming.IsNamed}
 use Rattle.rls_session.specs.rls_script.specs.Streams.{GrewBy}
+use Rattle.rls_command_line.specs.declared.words.Request.{Request}
+use Rattle.rls_command_line.specs.declared.words.Request.TheVariants as q
+use Rattle.rls_command_line.specs.declared.words.Lint.{Lint}
 use Rattle.rlsdb.specs.declared.linting.LintEnd.{LintEnd}
 use Rattle.rlsdb.specs.declared.linting.LintEnd.TheVariants as e
-use Rattle.rlsdb.specs.declared.words.Request.{Request}
-use Rattle.rlsdb.specs.declared.words.Request.TheVariants as q
-use Rattle.rlsdb.specs.declared.words.Lint.{Lint}
 use Rattle.rlsdb.specs.Answers.{Answers}
 use Rattle.rlsdb.specs.AuditLines.{Reads}
 use Rattle.rlsdb.specs.Linting.{FirstDiffers, IsLintOf, IsLinted, IsLintedAlong, Where, asked_txn, differing, first_or, is_all_right, is_clean, is_later, later_of, lint_text, state_before}

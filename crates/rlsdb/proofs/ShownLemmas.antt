@@ -2,24 +2,24 @@
 use Rattle.std.proofs.Common.{◌≡◌, refl, ◌++◌, ◌∷◌, [], ℕ, suc, ◌<◌, Bool, true, false, List, Option, Some, None, inl, inr, sym, ap, subst, ◌∙◌, length, append_assoc, append-nil, arith}
 use Rattle.std.specs.Prelude.{if◌then◌else◌}
 use Rattle.std.proofs.lemmas.Bool.{true≢false}
-use Rattle.rls_laws.specs.rls_check.specs.declared.audit.Audit.{Audit}
-use Rattle.rls_laws.specs.rls_check.specs.declared.filtering.ShownFilter.{ShownFilter}
-use Rattle.rls_laws.specs.rls_check.specs.declared.finding.Finding.{Finding}
-use Rattle.rls_laws.specs.rls_check.specs.declared.finding.Finding.TheVariants as f
-use Rattle.rls_laws.specs.rls_check.specs.declared.shown_texts.Ending.{Ending}
-use Rattle.rls_laws.specs.rls_check.specs.declared.shown_texts.Ending.TheVariants as e
-use Rattle.rls_laws.specs.rls_check.specs.declared.transaction.Transaction.{Transaction}
-use Rattle.rls_laws.specs.rls_check.specs.declared.walking.{Turn.Turn, Walk.Walk}
-use Rattle.rls_laws.specs.rls_check.specs.Checking.{IsNoOrder}
-use Rattle.rls_laws.specs.rls_check.specs.ShownAudits.{FirstDiffers, IsShown, IsShownAlong, missing_txn}
-use Rattle.rls_laws.specs.rls_check.specs.ShownTexts.{block_text, shown_text, turn_text}
-use Rattle.rls_laws.specs.rls_check.specs.Walking.{IsNext, IsTurn, IsWalk, Standing, left}
-use Rattle.rls_laws.specs.rls_check.specs.Wholes.{IsAuditOf}
+use Rattle.rls_check.specs.declared.audit.Audit.{Audit}
+use Rattle.rls_check.specs.declared.filtering.ShownFilter.{ShownFilter}
+use Rattle.rls_check.specs.declared.finding.Finding.{Finding}
+use Rattle.rls_check.specs.declared.finding.Finding.TheVariants as f
+use Rattle.rls_check.specs.declared.shown_texts.Ending.{Ending}
+use Rattle.rls_check.specs.declared.shown_texts.Ending.TheVariants as e
+use Rattle.rls_check.specs.declared.transaction.Transaction.{Transaction}
+use Rattle.rls_check.specs.declared.walking.{Turn.Turn, Walk.Walk}
+use Rattle.rls_check.specs.Checking.{IsNoOrder}
+use Rattle.rls_check.specs.ShownAudits.{FirstDiffers, IsShown, IsShownAlong, missing_txn}
+use Rattle.rls_check.specs.ShownTexts.{block_text, shown_text, turn_text}
+use Rattle.rls_check.specs.Walking.{IsNext, IsTurn, IsWalk, Standing, left}
+use Rattle.rls_check.specs.Wholes.{IsAuditOf}
 use Rattle.rls_session.specs.rls_script.specs.Streams.{GrewBy}
-use Rattle.rlsdb.specs.declared.words.Request.{Request}
-use Rattle.rlsdb.specs.declared.words.Request.TheVariants as q
-use Rattle.rlsdb.specs.declared.words.Shown.{Shown}
-use Rattle.rlsdb.specs.Answers.{Answers, IsShownOf, found_first, is_whole}
+use Rattle.rls_command_line.specs.declared.words.Request.{Request}
+use Rattle.rls_command_line.specs.declared.words.Request.TheVariants as q
+use Rattle.rls_command_line.specs.declared.words.Shown.{Shown}
+use Rattle.rlsdb.specs.Answers.{Answers, IsShownOf, filter_of, found_first, is_whole}
 use Rattle.rlsdb.specs.AuditLines.{Reads}
 use Rattle.rlsdb.proofs.AnswerLemmas.{grew_more, nothing, reads_more}
 use Rattle.rlsdb.proofs.CommandLemmas.{answered}
@@ -111,15 +111,15 @@ shown before after old new audit it ending reads grew =
     reads_more before after (λ texts. IsAuditOf texts audit) (λ texts. GrewBy old new (λ written. IsShownOf it texts written ending))
     (λ texts is. grew_more old new (λ written. IsShown it audit.transactions audit.order written ending) (λ written. IsShownOf it texts written ending) (λ written holds. (audit, is, holds)) grew) reads
 
--- and how it ended
-pub ended : (old new : List ℕ) (it : ShownFilter) (ending : Ending) (whole : Bool) → GrewBy old new (λ written. (texts : List (List ℕ)) × IsShownOf it texts written ending) → whole ≡ is_whole ending
+-- and how it ended, where the filter is the one that is asked for
+pub ended : (old new : List ℕ) (it made : ShownFilter) (ending : Ending) (whole : Bool) → made ≡ it → GrewBy old new (λ written. (texts : List (List ℕ)) × IsShownOf made texts written ending) → whole ≡ is_whole ending
     → GrewBy old new (λ written. (texts : List (List ℕ)) × (ending : Ending) × IsShownOf it texts written ending × (whole ≡ is_whole ending))
-ended old new it ending whole grew same =
-    grew_more old new (λ written. (texts : List (List ℕ)) × IsShownOf it texts written ending) (λ written. (texts : List (List ℕ)) × (ending : Ending) × IsShownOf it texts written ending × (whole ≡ is_whole ending))
-    (λ written holds. (holds.0, ending, holds.1, same)) grew
+ended old new it made ending whole is grew same =
+    grew_more old new (λ written. (texts : List (List ℕ)) × IsShownOf made texts written ending) (λ written. (texts : List (List ℕ)) × (ending : Ending) × IsShownOf it texts written ending × (whole ≡ is_whole ending))
+    (λ written holds. (holds.0, ending, subst (λ (filter : ShownFilter). IsShownOf filter holds.0 written ending) is holds.1, same)) grew
 
 -- the answer
-pub answered_shown : (request : Request) (asked : Shown) (whole : Bool) (old new : List ℕ) → request ≡ q.Shown asked → GrewBy old new (λ written. (texts : List (List ℕ)) × (ending : Ending) × IsShownOf asked.wanted texts written ending × (whole ≡ is_whole ending))
+pub answered_shown : (request : Request) (asked : Shown) (whole : Bool) (old new : List ℕ) → request ≡ q.Shown asked → GrewBy old new (λ written. (texts : List (List ℕ)) × (ending : Ending) × IsShownOf (filter_of asked.wanted) texts written ending × (whole ≡ is_whole ending))
     → GrewBy old new (λ written. Answers request written whole)
 answered_shown request asked whole old new is grew =
-    answered request (q.Shown asked) whole old new (λ written. (texts : List (List ℕ)) × (ending : Ending) × IsShownOf asked.wanted texts written ending × (whole ≡ is_whole ending)) is (λ written holds. holds) grew
+    answered request (q.Shown asked) whole old new (λ written. (texts : List (List ℕ)) × (ending : Ending) × IsShownOf (filter_of asked.wanted) texts written ending × (whole ≡ is_whole ending)) is (λ written holds. holds) grew

@@ -5,20 +5,20 @@ use Rattle.std.proofs.lemmas.Slice.Eq.{bytes_eq-Decides}
 use Rattle.std.specs.List.{flat_map}
 use Rattle.std.specs.Str.{bytes_eq}
 use Rattle.std.specs.Str.Lines.{lines}
-use Rattle.rls_laws.specs.rls_check.specs.rls_audit.specs.rls_core.specs.Records.{Record}
+use Rattle.rls_check.specs.rls_audit.specs.rls_core.specs.Records.{Record}
 use Rattle.rls_session.specs.rls_script.specs.Streams.{GrewBy}
 use Rattle.rls_transcript.specs.Reports.{IsReport}
 use Rattle.rls_transcript.specs.Told.{Told, ended}
 use Rattle.rls_transcript.specs.Transcripts.{filled, script_of}
+use Rattle.rls_command_line.specs.declared.words.Request.{Request}
+use Rattle.rls_command_line.specs.declared.words.Request.TheVariants as q
+use Rattle.rls_command_line.specs.declared.words.ScriptFile.{ScriptFile}
+use Rattle.rls_command_line.specs.declared.words.Tests.{Tests}
+use Rattle.rls_command_line.specs.Words.{is_output_wanted}
 use Rattle.rlsdb.specs.declared.answering.Answered.{Answered}
 use Rattle.rlsdb.specs.Tests.{AreAnswered, AreAnsweredUntil, AreTested, IsFilledBy, IsStopText, IsTested, IsTestedSo, IsTextTested, IsWritten, more, none}
-use Rattle.rlsdb.specs.declared.words.Request.{Request}
-use Rattle.rlsdb.specs.declared.words.Request.TheVariants as q
-use Rattle.rlsdb.specs.declared.words.ScriptFile.{ScriptFile}
-use Rattle.rlsdb.specs.declared.words.Tests.{Tests}
 use Rattle.rlsdb.specs.Answers.{Answers, IsAudited, IsStopAnswer, IsWithAudit}
 use Rattle.rlsdb.specs.AuditLines.{WritesAudit}
-use Rattle.rlsdb.specs.Words.{is_output_wanted}
 use Rattle.rlsdb.proofs.AnswerLemmas.{grew_more, text_with_audit}
 use Rattle.rlsdb.proofs.CommandLemmas.{answered}
 

@@ -2,32 +2,33 @@
 use Rattle.std.specs.Prelude.{◌≡◌, ◌++◌, ◌∷◌, [], ℕ, nat_lt, List, length, Bool, true, false, not, ◌&&◌, Option, Some, None, is_some, map, codes, if◌then◌else◌}
 use Rattle.std.specs.Borrow.{Bor}
 use Rattle.std.specs.Fmt.{decimal}
-use Rattle.rls_laws.specs.rls_check.specs.rls_meaning.specs.rls_guard.specs.rls_catalog.specs.rls_value.specs.declared.row.RowId.{RowId}
-use Rattle.rls_laws.specs.rls_check.specs.rls_audit.specs.rls_core.specs.Records.{Record}
-use Rattle.rls_laws.specs.rls_check.specs.declared.audit.Audit.{Audit}
-use Rattle.rls_laws.specs.rls_check.specs.declared.finding.Finding.{Finding}
-use Rattle.rls_laws.specs.rls_check.specs.declared.finding.Finding.TheVariants as f
-use Rattle.rls_laws.specs.rls_check.specs.declared.explaining.Why.{Why}
-use Rattle.rls_laws.specs.rls_check.specs.Wholes.{AreConverted, IsAuditOf}
-use Rattle.rls_laws.specs.rls_check.specs.Checking.{IsFirst}
-use Rattle.rls_laws.specs.rls_check.specs.Explaining.{IsExplained}
-use Rattle.rls_laws.specs.rls_check.specs.Findings.{finding_text}
-use Rattle.rls_laws.specs.rls_check.specs.declared.filtering.ShownFilter.{ShownFilter}
-use Rattle.rls_laws.specs.rls_check.specs.declared.shown_texts.Ending.{Ending}
-use Rattle.rls_laws.specs.rls_check.specs.declared.shown_texts.Ending.TheVariants as e
-use Rattle.rls_laws.specs.rls_check.specs.declared.walking.Turn.{Turn}
-use Rattle.rls_laws.specs.rls_check.specs.ShownAudits.{IsShown}
-use Rattle.rls_laws.specs.rls_check.specs.WhyTexts.{explanation_text}
+use Rattle.rls_check.specs.rls_meaning.specs.rls_guard.specs.rls_catalog.specs.rls_value.specs.declared.row.RowId.{RowId}
+use Rattle.rls_check.specs.rls_audit.specs.rls_core.specs.Records.{Record}
+use Rattle.rls_check.specs.declared.audit.Audit.{Audit}
+use Rattle.rls_check.specs.declared.finding.Finding.{Finding}
+use Rattle.rls_check.specs.declared.finding.Finding.TheVariants as f
+use Rattle.rls_check.specs.declared.explaining.Why.{Why}
+use Rattle.rls_check.specs.Wholes.{AreConverted, IsAuditOf}
+use Rattle.rls_check.specs.Checking.{IsFirst}
+use Rattle.rls_check.specs.Explaining.{IsExplained}
+use Rattle.rls_check.specs.Findings.{finding_text}
+use Rattle.rls_check.specs.declared.filtering.ShownFilter.{ShownFilter}
+use Rattle.rls_check.specs.declared.shown_texts.Ending.{Ending}
+use Rattle.rls_check.specs.declared.shown_texts.Ending.TheVariants as e
+use Rattle.rls_check.specs.declared.walking.Turn.{Turn}
+use Rattle.rls_check.specs.ShownAudits.{IsShown}
+use Rattle.rls_check.specs.WhyTexts.{explanation_text}
 use Rattle.rls_session.specs.Scripts.{IsScriptText, RunsScript}
 use Rattle.rls_session.specs.Texts.{IsPhasesText, RunsInPhases}
-use Rattle.rlsdb.specs.declared.words.Request.{Request}
-use Rattle.rlsdb.specs.declared.words.Request.TheVariants as q
+use Rattle.rls_command_line.specs.declared.words.Request.{Request}
+use Rattle.rls_command_line.specs.declared.words.Request.TheVariants as q
+use Rattle.rls_command_line.specs.Words.{is_output, is_output_wanted}
+use Rattle.rls_command_line.specs.declared.words.ScriptFile.{ScriptFile}
+use Rattle.rls_command_line.specs.declared.words.Wanted.{Wanted}
 use Rattle.rlsdb.specs.AuditLines.{WritesAudit, ended_lines}
 use Rattle.rlsdb.specs.declared.linting.LintEnd.{LintEnd}
 use Rattle.rlsdb.specs.Linting.{IsLintOf, is_all_right}
 use Rattle.rlsdb.specs.Tests.{AreTested, IsStopText}
-use Rattle.rlsdb.specs.Words.{is_output, is_output_wanted}
-use Rattle.rlsdb.specs.declared.words.ScriptFile.{ScriptFile}
 
 -- What was taken grew by the text of the script that was given, run in phases or in the order of its lines. Told tersely, serialization
 -- failures name no objects and no transactions.
@@ -101,6 +102,10 @@ abbrev pub IsWhyOf : ℕ → ℕ → Option RowId → List (List ℕ) → List �
 IsWhyOf txn statement row texts written said =
     (audit : Audit) × (why : Option Why) × IsAuditOf texts audit × IsExplained audit.transactions audit.order txn statement row why × (written ≡ why_text why) × (said ≡ is_some why)
 
+-- the same statements and rows, as turns are asked for them
+abbrev pub filter_of : Wanted → ShownFilter
+filter_of it = record { roles = it.roles; logins = it.logins; txns = it.txns; tables = it.tables; rows = it.rows; denied = it.denied; all = it.all; json = it.json }
+
 -- what the statements of the audit whose lines these are did with rows, as far as it is asked for, and how it ended
 abbrev pub IsShownOf : ShownFilter → List (List ℕ) → List ℕ → Ending → Type 0
 IsShownOf it texts written ending = (audit : Audit) × IsAuditOf texts audit × IsShown it audit.transactions audit.order written ending
@@ -143,7 +148,7 @@ Answers (q.Order name) written done = (texts : List (List ℕ)) × IsOrderOf tex
 Answers (q.Check it) written done =
     (made : List ℕ) × AreChecked (nat_lt 1 (length it.audits.items)) (map (λ name. name.now) it.audits.items) made done × (written ≡ answered_part (not it.quiet) made)
 Answers (q.Explain asked) written done = (texts : List (List ℕ)) × IsWhyOf asked.txn asked.statement asked.row texts written done
-Answers (q.Shown asked) written done = (texts : List (List ℕ)) × (ending : Ending) × IsShownOf asked.wanted texts written ending × (done ≡ is_whole ending)
+Answers (q.Shown asked) written done = (texts : List (List ℕ)) × (ending : Ending) × IsShownOf (filter_of asked.wanted) texts written ending × (done ≡ is_whole ending)
 Answers (q.Lint asked) written done = (texts : List (List ℕ)) × (ending : LintEnd) × IsLintOf asked.after texts written ending × (done ≡ is_all_right ending)
 Answers (q.Parse name) written done = IsParsed written done
 Answers (q.Migrate from to) written done =

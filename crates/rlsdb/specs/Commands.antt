@@ -1,11 +1,11 @@
 -- The exit status of the program, by its words.
 use Rattle.std.specs.Prelude.{◌⊎◌, ℕ, List, Bool, Result, Ok, Err}
 use Rattle.rls_session.specs.rls_script.specs.Streams.{GrewBy}
+use Rattle.rls_command_line.specs.declared.words.Request.{Request}
+use Rattle.rls_command_line.specs.declared.command_line.Mistake.{Mistake}
+use Rattle.rls_command_line.specs.CommandLine.{Asks, IsMistaken}
 use Rattle.rlsdb.specs.declared.fault.Fault.{Fault}
-use Rattle.rlsdb.specs.declared.words.Request.{Request}
-use Rattle.rlsdb.specs.declared.command_line.Mistake.{Mistake}
 use Rattle.rlsdb.specs.Answers.{Answers}
-use Rattle.rlsdb.specs.CommandLine.{Asks, IsMistaken}
 use Rattle.rlsdb.specs.Faults.{EndsAnswer, EndsMistake}
 
 -- the output took the answer, where the command comes to no fault

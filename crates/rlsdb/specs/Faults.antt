@@ -2,16 +2,16 @@
 use Rattle.std.specs.Prelude.{◌≡◌, ◌⊎◌, ℕ, List, Bool, true, false, Option, Some, None, Result, Ok, Err}
 use Rattle.std.specs.Borrow.{Bor}
 use Rattle.std.specs.declared.io.Error.{Error}
-use Rattle.rls_laws.specs.rls_check.specs.rls_meaning.specs.rls_guard.specs.rls_catalog.specs.rls_value.specs.declared.refusal.Refusal.{Refusal}
-use Rattle.rls_laws.specs.rls_check.specs.rls_meaning.specs.rls_guard.specs.rls_catalog.specs.rls_value.specs.declared.refusal.Refusal.TheVariants as r
+use Rattle.rls_check.specs.rls_meaning.specs.rls_guard.specs.rls_catalog.specs.rls_value.specs.declared.refusal.Refusal.{Refusal}
+use Rattle.rls_check.specs.rls_meaning.specs.rls_guard.specs.rls_catalog.specs.rls_value.specs.declared.refusal.Refusal.TheVariants as r
 use Rattle.rls_session.specs.rls_script.specs.declared.fault.RunFault.TheVariants as run
+use Rattle.rls_command_line.specs.declared.command_line.Mistake.{Mistake}
+use Rattle.rls_command_line.specs.declared.command_line.Mistake.TheVariants as mistake
 use Rattle.rlsdb.specs.declared.fault.Fault.{Fault}
 use Rattle.rlsdb.specs.declared.fault.Fault.TheVariants as fault
 use Rattle.rlsdb.specs.declared.flaw.Flaw.{Flaw}
 use Rattle.rlsdb.specs.declared.flaw.Flaw.TheVariants as flaw
 use Rattle.rlsdb.specs.Flaws.{IsFlaw}
-use Rattle.rlsdb.specs.declared.command_line.Mistake.{Mistake}
-use Rattle.rlsdb.specs.declared.command_line.Mistake.TheVariants as mistake
 use Rattle.clap.specs.Words.{kind_of}
 use Rattle.clap.specs.declared.error.kind.ErrorKind.{ErrorKind}
 use Rattle.clap.specs.declared.error.kind.ErrorKind.TheVariants as kind

@@ -1,5 +1,3 @@
-pub mod Words
-pub mod CommandLine
 pub mod AuditLines
 pub mod Tests
 pub mod Linting

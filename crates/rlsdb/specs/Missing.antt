@@ -1,9 +1,9 @@
 -- Why there is no decision to explain.
 use Rattle.std.specs.Prelude.{◌≡◌, ℕ, nat_eq, false, Some, None}
 use Rattle.std.specs.List.{list_any}
-use Rattle.rls_laws.specs.rls_check.specs.declared.audit.Audit.{Audit}
-use Rattle.rls_laws.specs.rls_check.specs.declared.explaining.Why.{Why}
-use Rattle.rls_laws.specs.rls_check.specs.Explaining.{IsExplained}
+use Rattle.rls_check.specs.declared.audit.Audit.{Audit}
+use Rattle.rls_check.specs.declared.explaining.Why.{Why}
+use Rattle.rls_check.specs.Explaining.{IsExplained}
 use Rattle.rlsdb.specs.declared.missing.Missing.{Missing}
 use Rattle.rlsdb.specs.declared.missing.Missing.TheVariants as missing
 

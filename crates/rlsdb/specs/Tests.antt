@@ -2,7 +2,7 @@
 use Rattle.std.specs.Prelude.{◌≡◌, ◌≤◌, ◌++◌, [], ◌∷◌, ℕ, nat_eq, List, Bool, true, false, ◌&&◌, not, length, take, Option, Some, None}
 use Rattle.std.specs.List.{flat_map, list_all}
 use Rattle.std.specs.Str.Lines.{lines}
-use Rattle.rls_laws.specs.rls_check.specs.rls_audit.specs.rls_core.specs.Records.{Record}
+use Rattle.rls_check.specs.rls_audit.specs.rls_core.specs.Records.{Record}
 use Rattle.rls_session.specs.Scripts.{IsScriptText}
 use Rattle.rls_transcript.specs.Marks.{marked, tolds_in}
 use Rattle.rls_transcript.specs.Reports.{IsReport}

@@ -2,7 +2,7 @@
 
 ghost use Rattle.std.specs.Prelude.{◌≡◌, ◌≤◌, [], true, length, map, take, IfOk};
 ghost use Rattle.std.specs.List.{All, list_all};
-ghost use Rattle.rls_laws.specs.rls_check.specs.rls_audit.specs.Showing.{AreTexts};
+ghost use Rattle.rls_check.specs.rls_audit.specs.Showing.{AreTexts};
 ghost use Rattle.rls_session.specs.Scripts.{IsScriptText};
 ghost use Rattle.rls_session.specs.rls_script.specs.Streams.{GrewBy};
 ghost use Rattle.rls_transcript.specs.Marks as marks;

@@ -5,7 +5,7 @@ ghost use Rattle.std.specs.Option.{option_to_list};
 ghost use Rattle.rlsdb.specs.AuditLines.{ReadsNext, WritesLine};
 
 use crate::device::DeviceIn;
-use rls_laws::rls_audit::{Line, write_line};
+use rls_check::rls_audit::{Line, write_line};
 use rls_session::rls_script::{Failed, RunFault, ScriptIn, ScriptOut, write_all};
 use std::alloc::Global;
 use std::io;

@@ -2,9 +2,9 @@
 
 ghost use Rattle.std.specs.Prelude.{◌≡◌, ◌++◌, ◌∷◌, [], ℕ, nat_lt, true, ◌&&◌, List, length, map, is_some, IfOk, OnOk};
 ghost use Rattle.std.specs.Io.Buffered.{writer_buffer};
-ghost use Rattle.rls_laws.specs.rls_check.specs.Findings.{finding_text};
-ghost use Rattle.rls_laws.specs.rls_check.specs.Wholes.{HasConverted, HasRead, IsAuditOf};
-ghost use Rattle.rls_laws.specs.rls_check.specs.WhyTexts.{explanation_text};
+ghost use Rattle.rls_check.specs.Findings.{finding_text};
+ghost use Rattle.rls_check.specs.Wholes.{HasConverted, HasRead, IsAuditOf};
+ghost use Rattle.rls_check.specs.WhyTexts.{explanation_text};
 ghost use Rattle.rls_session.specs.rls_script.specs.Streams.{GrewBy};
 ghost use Rattle.rlsdb.specs.Answers.{AreChecked, IsCheckOfOne, checked_text, IsMigrationOf, IsOrderOf, IsWhyOf, order_text, why_text};
 ghost use Rattle.rlsdb.specs.AuditLines.{Converted, Reads, ended_lines};
@@ -16,8 +16,8 @@ use crate::fault::Fault;
 use crate::missing::{Missing, missing_in};
 use crate::out_file::OutFile;
 use crate::same_file::{require_apart, require_own};
-use crate::words::Explain;
-use rls_laws::rls_check::{Audit, Converter, Finding, Reader, Why};
+use rls_check::{Audit, Converter, Finding, Reader, Why};
+use rls_command_line::Explain;
 use rls_session::rls_script::{Failed, RunFault, ScriptIn, ScriptOut, write_all};
 use std::alloc::Global;
 use std::fs;

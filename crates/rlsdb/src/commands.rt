@@ -8,12 +8,13 @@ ghost use Rattle.rlsdb.specs.Answers.{Answers};
 ghost use Rattle.rlsdb.specs.Commands.{EndsWords};
 ghost use Rattle.rlsdb.specs.Faults.{EndsAnswer, EndsWith, EndsMistake};
 
-use crate::command_line::Mistake;
 use crate::device::{DeviceOut, Nowhere};
 use crate::fault::Fault;
-use crate::words::{Checks, Request, ScriptFile, is_output, is_output_wanted};
-use crate::{audits, command_line, hinting, linting, running, shown, stopping, testing};
+use crate::{audits, hinting, linting, running, shown, stopping, testing};
 use clap::error::ErrorKind;
+use rls_command_line::{
+    Checks, Mistake, Request, ScriptFile, is_output, is_output_wanted, request_of,
+};
 use rls_session::rls_script::RunFault;
 use std::convert::AsStr;
 use std::io::Write;
@@ -73,7 +74,7 @@ fn run_words<W: Threads + Wait + Clock + Sync, T: AsStr, D: Write + Drop>(
 ) -> u8
     ensures { EndsWords (map T.text words.now) output.old.taken.bytes output.new.taken.bytes result }
 {
-    match command_line::request_of(rt.alloc(), words) {
+    match request_of(rt.alloc(), words) {
         Ok(request) => end(rt, serve(rt, waits, request, output)),
         Err(mistake) => explain(rt, mistake),
     }
@@ -142,7 +143,7 @@ fn answer<'a, W: Threads + Wait + Clock + Sync, D: Write + Drop>(
         }
         Request::Check(checks) => Ok(check(rt, &checks, output)?),
         Request::Explain(asked) => Ok(audits::explain(rt, asked, output)?),
-        Request::Shown(asked) => Ok(shown::shown(rt, &asked, output)?),
+        Request::Shown(asked) => Ok(shown::shown(rt, asked, output)?),
         Request::Lint(asked) => Ok(linting::lint(rt, asked, output)?),
         Request::Migrate(from, to) => Ok(migrate(rt, from, to, output)?),
         Request::Parse(file) => Ok(hinting::parse(rt, file, output)?),

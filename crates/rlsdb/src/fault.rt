@@ -4,13 +4,13 @@ ghost use Rattle.std.specs.Prelude.{◌≡◌, true, false, None, IfSome};
 ghost use Rattle.std.specs.IoError.{error_kind};
 ghost use Rattle.std.specs.declared.io.ErrorKind.TheVariants.{OutOfMemory};
 ghost use Rattle.rls_session.specs.rls_script.specs.declared.fault.RunFault.TheVariants.{NoMemory, Foreign, Write};
-ghost use Rattle.rls_laws.specs.rls_check.specs.rls_audit.specs.declared.showing.Unshown.TheVariants.{Never};
+ghost use Rattle.rls_check.specs.rls_audit.specs.declared.showing.Unshown.TheVariants.{Never};
 ghost use Rattle.rlsdb.specs.declared.fault.Fault.TheVariants.{Ended};
 ghost use Rattle.rlsdb.specs.Faults.{IsFlawed, ended_fault, line_fault, named_fault, unread_fault, unwritten_fault};
 
 use crate::flaw::{Flaw, flaw_of};
-use rls_laws::rls_audit::Unshown;
-use rls_laws::rls_check::rls_guard::rls_catalog::rls_value::Refusal;
+use rls_check::rls_audit::Unshown;
+use rls_check::rls_guard::rls_catalog::rls_value::Refusal;
 use rls_session::rls_script::RunFault;
 use std::alloc::{AllocError, AllocFailed, Global};
 use std::io;

@@ -5,8 +5,8 @@ ghost use Rattle.rlsdb.specs.Flaws as spec;
 ghost use Rattle.rlsdb.specs.Flaws.{IsFlaw};
 
 use crate::device::begins_with_mark;
-use rls_laws::rls_audit::{First, Second, read_line};
-use rls_laws::rls_check::rls_guard::rls_catalog::rls_value::Refusal;
+use rls_check::rls_audit::{First, Second, read_line};
+use rls_check::rls_guard::rls_catalog::rls_value::Refusal;
 use std::alloc::Global;
 use std::str;
 

@@ -4,14 +4,13 @@
 mod answering;
 mod audit_file;
 mod audits;
-mod command_line;
 mod commands;
 mod device;
 mod fault;
 mod flaw;
 mod held;
 mod hinting;
-mod lint_line;
+mod holding;
 mod linting;
 mod missing;
 mod out_file;
@@ -20,10 +19,8 @@ mod running;
 mod same_file;
 mod script_file;
 mod shown;
-mod shown_line;
 mod stopping;
 mod testing;
-mod words;
 
 use large_stack::{Stack, call_apart};
 use std::process::ExitCode;

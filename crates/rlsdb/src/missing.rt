@@ -2,7 +2,7 @@
 
 ghost use Rattle.rlsdb.specs.Missing.{IsMissing};
 
-use rls_laws::rls_check::Audit;
+use rls_check::Audit;
 use std::alloc::Global;
 
 /// What an audit doesn't have of a decision that is to be explained.

@@ -2,17 +2,17 @@
 
 ghost use Rattle.std.specs.Prelude.{◌≡◌, ◌⊎◌, ◌++◌, ℕ, List, IfOk, OnOk};
 ghost use Rattle.rls_session.specs.rls_script.specs.Streams.{GrewBy};
-ghost use Rattle.rls_laws.specs.rls_check.specs.ShownAudits.{FirstDiffers, IsShown};
-ghost use Rattle.rls_laws.specs.rls_check.specs.ShownTexts.{shown_text, turn_text};
-ghost use Rattle.rls_laws.specs.rls_check.specs.Walking.{IsMeant, left};
-ghost use Rattle.rlsdb.specs.Answers.{IsShownOf, found_first, is_whole};
+ghost use Rattle.rls_check.specs.ShownAudits.{FirstDiffers, IsShown};
+ghost use Rattle.rls_check.specs.ShownTexts.{shown_text, turn_text};
+ghost use Rattle.rls_check.specs.Walking.{IsMeant, left};
+ghost use Rattle.rlsdb.specs.Answers.{IsShownOf, filter_of, found_first, is_whole};
 ghost use Rattle.rlsdb.specs.AuditLines.{Reads};
 
 use crate::audit_file::AuditIn;
 use crate::audits::{audit_in, read_audit, told};
 use crate::fault::Fault;
-use crate::words::Shown;
-use rls_laws::rls_check::{Audit, Ending, Finding, ShownFilter, Turn, Walk};
+use rls_check::{Audit, Ending, Finding, ShownFilter, Turn, Walk};
+use rls_command_line::{Shown, Wanted};
 use rls_session::rls_script::{Failed, RunFault, ScriptIn, ScriptOut, write_all};
 use std::alloc::Global;
 
@@ -21,15 +21,44 @@ use std::alloc::Global;
 #[tactic(auto, using(crate::proofs::ShownLemmas::ended))]
 pub fn shown<'a, O: ScriptOut>(
     rt: &HostRuntime,
-    asked: &Shown<'a>,
+    asked: Shown<'a>,
     output: &mut O,
 ) -> Result<bool, Fault<'a>>
-    ensures { IfOk result (λ whole. GrewBy (O.taken output.old) (O.taken output.new) (λ written. (texts : List (List ℕ)) × (ending : Ending) × IsShownOf asked.now.wanted texts written ending × (whole ≡ is_whole ending))) }
+    ensures { IfOk result (λ whole. GrewBy (O.taken output.old) (O.taken output.new) (λ written. (texts : List (List ℕ)) × (ending : Ending) × IsShownOf (filter_of asked.entry.wanted) texts written ending × (whole ≡ is_whole ending))) }
 {
-    let name = asked.audit;
-    let ending = shown_from(rt, name, &asked.wanted, output)?;
-    tell(rt, name, ending);
+    let Shown { audit, wanted } = asked;
+    let filter = filter_of(wanted);
+    let ending = shown_from(rt, audit, &filter, output);
+    drop(filter);
+    let ending = ending?;
+    tell(rt, audit, ending);
     Ok(is_whole(ending))
+}
+
+/// The same statements and rows, as turns are asked for them.
+fn filter_of(wanted: Wanted) -> ShownFilter
+    ensures { result ≡ filter_of wanted }
+{
+    let Wanted {
+        roles,
+        logins,
+        txns,
+        tables,
+        rows,
+        denied,
+        all,
+        json,
+    } = wanted;
+    ShownFilter {
+        roles,
+        logins,
+        txns,
+        tables,
+        rows,
+        denied,
+        all,
+        json,
+    }
 }
 
 /// The same, and how it ends.

@@ -9,7 +9,7 @@ use crate::device::DeviceOut;
 use crate::fault::Fault;
 use crate::out_file::OutFile;
 use crate::script_file::read_file;
-use crate::words::Tests;
+use rls_command_line::Tests;
 use rls_session::rls_script::{Failed, RunFault, ScriptOut, write_all};
 use rls_transcript::{Told, filled, loose_in, script_of, split_lines, write_report};
 use std::alloc::Global;

@@ -1,5 +1,5 @@
 use Rattle.std.proofs.Common.{ap, sym, subst, ◌∙◌}
-use Rattle.rls_audit.specs.Lines.{reply_of}
+use Rattle.rls_core.specs.rls_guard.specs.Effects.{reply_of}
 use Rattle.rls_audit.specs.Showing.{CanShow}
 use Rattle.rls_audit.proofs.ShowingLemmas.{same_reply, can_show, part_fails}
 use Rattle.rls_audit.proofs.showing.answer_to.Goals as goal

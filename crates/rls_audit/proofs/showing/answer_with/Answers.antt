@@ -1,6 +1,6 @@
 use Rattle.std.proofs.Common.{ap, sym, subst, ◌∙◌}
 use Rattle.rls_text.specs.{ParseResults.IsSpelled, Words.words_of}
-use Rattle.rls_audit.specs.Lines.{decisions_of, reply_of}
+use Rattle.rls_core.specs.rls_guard.specs.Effects.{decisions_of, reply_of}
 use Rattle.rls_audit.specs.Printed.{printed_text}
 use Rattle.rls_audit.specs.Showing.{IsSpellable}
 use Rattle.rls_audit.proofs.{AskedLemmas.asked_spelled, ShowingLemmas.same_answered}

@@ -1,5 +1,5 @@
 use Rattle.std.proofs.Common.{◌≡◌, ◌+◌, length}
-use Rattle.rls_check.specs.Keeping.{place_of}
+use Rattle.rls_audit.specs.FirstKeys.{place_of}
 use Rattle.rls_check.proofs.keeping.place_of.Given as goal
 
 -- those before, and the place in what is left

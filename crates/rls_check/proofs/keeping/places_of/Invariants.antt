@@ -1,5 +1,5 @@
 use Rattle.std.proofs.Common.{◌≡◌, map, take}
-use Rattle.rls_check.specs.Keeping.{place_of}
+use Rattle.rls_audit.specs.FirstKeys.{place_of}
 use Rattle.rls_check.proofs.keeping.places_of.Given as goal
 
 -- the places of the first names

@@ -1,6 +1,6 @@
 use Rattle.std.proofs.Common.{◌≡◌}
-use Rattle.rls_source.specs.Sequences.{each_of}
-use Rattle.rls_source.proofs.EachLemmas.{left}
+use Rattle.rls_guard.specs.rls_source.specs.Sequences.{each_of}
+use Rattle.rls_guard.specs.rls_source.proofs.EachLemmas.{left}
 use Rattle.rls_dml.specs.Checking.{place_or_undefined}
 use Rattle.rls_dml.proofs.analysed_insert.known_places.Given as goal
 

@@ -1,7 +1,7 @@
 use Rattle.std.proofs.Common.{◌≡◌}
 use Rattle.rls_expr.specs.Resolving.{names_in}
-use Rattle.rls_source.specs.Sequences.{each_of}
-use Rattle.rls_source.proofs.EachLemmas.{left}
+use Rattle.rls_guard.specs.rls_source.specs.Sequences.{each_of}
+use Rattle.rls_guard.specs.rls_source.proofs.EachLemmas.{left}
 use Rattle.rls_dml.specs.Updating.{assignment_resolved}
 use Rattle.rls_dml.proofs.analysed_update.resolve_assignments.Given as goal
 

@@ -1,5 +1,5 @@
 use Rattle.std.proofs.Common.{subst}
-use Rattle.rls_source.specs.Answering.{Tells}
+use Rattle.rls_guard.specs.rls_source.specs.Answering.{Tells}
 use Rattle.rls_judging.specs.Handed.{items_now}
 use Rattle.rls_judging.specs.Judging as spec
 use Rattle.rls_dml.proofs.checking_rows.judged_under.Goals as goal

@@ -1,5 +1,5 @@
 use Rattle.std.proofs.Common.{subst}
-use Rattle.rls_source.specs.Answering.{Tells}
+use Rattle.rls_guard.specs.rls_source.specs.Answering.{Tells}
 use Rattle.rls_judging.specs.Handed.{datum_values_each}
 use Rattle.rls_judging.specs.Valuing.{tuples_of}
 use Rattle.rls_dml.proofs.inserting.tuples_under.Goals as goal

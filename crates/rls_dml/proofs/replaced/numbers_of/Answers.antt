@@ -1,7 +1,7 @@
 use Rattle.std.proofs.Common.{subst, map, ◌∙◌}
 use Rattle.std.specs.BTreeSet.{IsFromIterResult}
 use Rattle.std.proofs.IntoIterSteps.{All-taken}
-use Rattle.rls_catalog.specs.State.{id_order}
+use Rattle.rls_guard.specs.rls_catalog.specs.State.{id_order}
 use Rattle.rls_dml.proofs.NumberLemmas.{set_of_numbers}
 use Rattle.rls_dml.proofs.replaced.numbers_of.Goals as goal
 

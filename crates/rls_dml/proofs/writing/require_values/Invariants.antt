@@ -1,5 +1,5 @@
 use Rattle.std.proofs.Common.{◌≡◌, drop}
-use Rattle.rls_source.specs.Sequences.{each_or_refused}
+use Rattle.rls_guard.specs.rls_source.specs.Sequences.{each_or_refused}
 use Rattle.rls_dml.specs.Writing.{has_values}
 use Rattle.rls_dml.proofs.writing.require_values.Given as goal
 

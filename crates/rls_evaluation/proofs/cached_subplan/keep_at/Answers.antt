@@ -1,5 +1,5 @@
 use Rattle.std.proofs.Common.{rules}
-use Rattle.rls_expr.specs.ExprTerms.{query_of}
+use Rattle.rls_source.specs.rls_catalog.specs.rls_expr.specs.ExprTerms.{query_of}
 use Rattle.rls_evaluation.specs.Scoping.{env_of}
 use Rattle.rls_evaluation.proofs.CachedSubplanLemmas.{kept_cached}
 use Rattle.rls_evaluation.proofs.Telling.{on_ok_then}

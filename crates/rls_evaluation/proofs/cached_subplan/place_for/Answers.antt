@@ -1,5 +1,5 @@
 use Rattle.std.proofs.Common.{subst, rules}
-use Rattle.rls_expr.specs.ExprTerms.{query_of}
+use Rattle.rls_source.specs.rls_catalog.specs.rls_expr.specs.ExprTerms.{query_of}
 use Rattle.rls_evaluation.specs.CachedSubplans.{FoundAt}
 use Rattle.rls_evaluation.proofs.CachedSubplanLemmas.{counted_cached, counted_found, pushed_cached, pushed_found}
 use Rattle.rls_evaluation.proofs.cached_subplan.place_for.Goals as goal

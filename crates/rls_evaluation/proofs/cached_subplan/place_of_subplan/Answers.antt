@@ -1,6 +1,6 @@
 use Rattle.std.proofs.Common.{rules, length}
 use Rattle.std.specs.Prelude.{refl}
-use Rattle.rls_expr.specs.ExprTerms.{query_of}
+use Rattle.rls_source.specs.rls_catalog.specs.rls_expr.specs.ExprTerms.{query_of}
 use Rattle.rls_evaluation.proofs.CachedSubplanLemmas.{none_below_more, none_below_all}
 use Rattle.rls_evaluation.proofs.cached_subplan.place_of_subplan.Goals as goal
 

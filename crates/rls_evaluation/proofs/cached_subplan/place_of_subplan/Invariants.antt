@@ -1,6 +1,6 @@
 -- The answers that are left, and the place is in the list; none before it is one of the subquery.
 use Rattle.std.proofs.Common.{◌-◌, ◌≤◌, length}
-use Rattle.rls_expr.specs.ExprTerms.{query_of}
+use Rattle.rls_source.specs.rls_catalog.specs.rls_expr.specs.ExprTerms.{query_of}
 use Rattle.rls_evaluation.specs.CachedSubplans.{NoneBelow}
 use Rattle.rls_evaluation.proofs.cached_subplan.place_of_subplan.Given as goal
 

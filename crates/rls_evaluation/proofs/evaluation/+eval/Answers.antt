@@ -2,9 +2,9 @@ use Rattle.std.proofs.Common.{rules, arith, ap, sym, subst, ◌∙◌, ◌+◌, 
 use Rattle.std.specs.Prelude.{Option, Some, None, IfOk}
 use Rattle.std.proofs.Math.Bool.{or_assoc}
 use Rattle.rls_value.specs.{declared.value.Value.Value, declared.truth.Truth.Truth, declared.value.Value.TheVariants.Null, declared.value.Value.TheVariants.Bool as Flag, declared.truth.Truth.TheVariants.True, declared.truth.Truth.TheVariants.False, Truths.conjunction_of, Truths.disjunction_of, Values.equal_values, Values.truth_in, Values.value_of_truth}
-use Rattle.rls_expr.specs.{declared.expr.Sign.TheVariants.Plus, ExprTerms.query_of, Terms.maybe_term, Terms.terms_of}
-use Rattle.rls_expr.specs.Terms as terms
-use Rattle.rls_expr.proofs.TermSizes.{size_at}
+use Rattle.rls_source.specs.rls_catalog.specs.rls_expr.specs.{declared.expr.Sign.TheVariants.Plus, ExprTerms.query_of, Terms.maybe_term, Terms.terms_of}
+use Rattle.rls_source.specs.rls_catalog.specs.rls_expr.specs.Terms as terms
+use Rattle.rls_source.specs.rls_catalog.specs.rls_expr.proofs.TermSizes.{size_at}
 use Rattle.rls_source.specs.{Readings.unread, Askings.Asking, Askings.known, Askings.followed_by}
 use Rattle.rls_evaluation.specs.{Environments.inside, Environments.compared, Environments.over, Environments.number_or_null, Environments.joined, Gathering.gathered, Gathering.kept, Gathering.with_row, Showing.shows, Showing.judgements_on, Showing.is_allowed, Showing.is_exempt, Showing.with_judgement, Holding.Holds, Holding.Evaluates, Holding.shown_at, Holding.object_for, Items.any_equal, Items.items_seen, Items.with_item, ValueSets.IsSetOf, Eval.value_of, Eval.together, Eval.and_value, Eval.or_value, Eval.or_equal, Eval.turned, Eval.turned_value, Eval.among_items, Eval.item_equals, Eval.item_if, Eval.item_of, Eval.item_or, Eval.meets, Eval.or_item, Eval.ranged_over, Eval.first_item, Eval.has_row, Eval.sum_from, Scoping.env_of, Scoping.datum_value, Scoping.datum_now, Scoping.maybe_datum, Scoping.maybe_now, Scoping.number_value}
 use Rattle.rls_evaluation.specs.declared.cached_subplan.Asks.TheVariants as a

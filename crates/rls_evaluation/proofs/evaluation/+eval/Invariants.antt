@@ -1,8 +1,8 @@
 use Rattle.std.proofs.Common.{◌≡◌, [], ◌++◌, ◌||◌, ◌+◌, ◌*◌, drop, false, List}
 use Rattle.rls_value.specs.{declared.value.Value.Value, declared.value.Value.TheVariants.Null, declared.truth.Truth.Truth}
 use Rattle.rls_value.specs.{declared.truth.Truth.TheVariants.True, declared.truth.Truth.TheVariants.False, Truths.conjunction_of, Truths.disjunction_of}
-use Rattle.rls_expr.specs.Terms.{maybe_term, terms_of, term_size, terms_size, query_size}
-use Rattle.rls_expr.specs.ExprTerms.{query_of}
+use Rattle.rls_source.specs.rls_catalog.specs.rls_expr.specs.Terms.{maybe_term, terms_of, term_size, terms_size, query_size}
+use Rattle.rls_source.specs.rls_catalog.specs.rls_expr.specs.ExprTerms.{query_of}
 use Rattle.rls_evaluation.specs.{Items.with_item, Environments.inside, Holding.Holds, Gathering.gathered, Gathering.kept}
 use Rattle.rls_evaluation.specs.Eval.{together, and_value, or_value, or_equal, meets, item_of, item_if, item_or, or_item}
 use Rattle.rls_evaluation.specs.Showing.{shows, is_allowed, judgements_on}

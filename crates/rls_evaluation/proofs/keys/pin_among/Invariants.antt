@@ -1,5 +1,5 @@
 use Rattle.std.proofs.Common.{◌≡◌, drop}
-use Rattle.rls_expr.specs.Terms.{terms_of}
+use Rattle.rls_source.specs.rls_catalog.specs.rls_expr.specs.Terms.{terms_of}
 use Rattle.rls_evaluation.specs.Keys.{pin_among}
 use Rattle.rls_evaluation.specs.Scoping.{env_of}
 use Rattle.rls_evaluation.proofs.keys.pin_among.Given as goal

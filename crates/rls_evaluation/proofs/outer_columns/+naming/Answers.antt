@@ -1,5 +1,5 @@
 use Rattle.std.proofs.Common.{rules, arith}
-use Rattle.rls_expr.proofs.TermSizes.{size_at}
+use Rattle.rls_source.specs.rls_catalog.specs.rls_expr.proofs.TermSizes.{size_at}
 use Rattle.rls_evaluation.proofs.outer_columns.+naming.Goals as goal
 
 pub stay_in-stays_in-requires : goal.stay_in-stays_in-requires

@@ -1,6 +1,6 @@
 use Rattle.std.proofs.Common.{◌≡◌, ◌+◌, ◌*◌, drop}
-use Rattle.rls_expr.specs.ExprTerms.{query_of}
-use Rattle.rls_expr.specs.Terms.{maybe_term, terms_of, term_size, terms_size, query_size}
+use Rattle.rls_source.specs.rls_catalog.specs.rls_expr.specs.ExprTerms.{query_of}
+use Rattle.rls_source.specs.rls_catalog.specs.rls_expr.specs.Terms.{maybe_term, terms_of, term_size, terms_size, query_size}
 use Rattle.rls_evaluation.specs.OuterColumns.{stay_in}
 use Rattle.rls_evaluation.specs.Depths.{named_in}
 use Rattle.rls_evaluation.proofs.outer_columns.+naming.Given as goal

@@ -1,5 +1,5 @@
 use Rattle.std.proofs.Common.{arith}
-use Rattle.rls_expr.proofs.TermSizes.{size_at}
+use Rattle.rls_source.specs.rls_catalog.specs.rls_expr.proofs.TermSizes.{size_at}
 use Rattle.rls_evaluation.proofs.outer_columns.+putting.Goals as goal
 
 pub put_of_parts-put_of-requires : goal.put_of_parts-put_of-requires

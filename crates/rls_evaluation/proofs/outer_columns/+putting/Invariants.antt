@@ -1,6 +1,6 @@
 use Rattle.std.proofs.Common.{◌+◌, ◌*◌}
-use Rattle.rls_expr.specs.ExprTerms.{query_of}
-use Rattle.rls_expr.specs.Terms.{terms_of, term_size, terms_size, query_size}
+use Rattle.rls_source.specs.rls_catalog.specs.rls_expr.specs.ExprTerms.{query_of}
+use Rattle.rls_source.specs.rls_catalog.specs.rls_expr.specs.Terms.{terms_of, term_size, terms_size, query_size}
 use Rattle.rls_evaluation.proofs.outer_columns.+putting.Given as goal
 
 -- the size of what is left; a list of parts stands above its parts

@@ -1,5 +1,5 @@
 use Rattle.std.proofs.Common.{◌≡◌, ◌++◌, drop}
-use Rattle.rls_expr.specs.Scopes.{in_scope}
+use Rattle.rls_guard.specs.rls_catalog.specs.rls_expr.specs.Scopes.{in_scope}
 use Rattle.rls_expansion.specs.Selected as spec
 use Rattle.rls_expansion.proofs.selected.selected_read.Given as goal
 

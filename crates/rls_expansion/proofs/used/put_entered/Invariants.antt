@@ -1,5 +1,5 @@
 use Rattle.std.proofs.Common.{◌≡◌, ◌++◌, drop, map}
-use Rattle.rls_expr.specs.Naming.{step_of}
+use Rattle.rls_guard.specs.rls_catalog.specs.rls_expr.specs.Naming.{step_of}
 use Rattle.rls_expansion.specs.Used as spec
 use Rattle.rls_expansion.proofs.used.put_entered.Given as goal
 

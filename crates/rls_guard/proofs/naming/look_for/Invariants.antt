@@ -1,5 +1,5 @@
 use Rattle.std.proofs.Common.{◌≡◌, ◌++◌, drop, map}
-use Rattle.rls_expr.specs.Naming.{step_of}
+use Rattle.rls_evaluation.specs.rls_catalog.specs.rls_expr.specs.Naming.{step_of}
 use Rattle.rls_guard.specs.Naming.{named}
 use Rattle.rls_guard.proofs.naming.look_for.Given as goal
 

@@ -1,6 +1,6 @@
 use Rattle.std.proofs.Common.{◌∙◌, ◌++◌, []}
 use Rattle.std.specs.Prelude.{List}
-use Rattle.rls_expr.specs.Terms.{maybe_term}
+use Rattle.rls_guard.specs.rls_catalog.specs.rls_expr.specs.Terms.{maybe_term}
 use Rattle.rls_guard.specs.rls_catalog.specs.declared.stored.Stored.{Stored}
 use Rattle.rls_evaluation.specs.Showing.{shows}
 use Rattle.rls_evaluation.proofs.LoopLemmas.{rows_turn}

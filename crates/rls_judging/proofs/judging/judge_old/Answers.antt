@@ -1,6 +1,6 @@
 use Rattle.std.proofs.Common.{◌≡◌, subst}
 use Rattle.std.specs.Prelude.{Ok}
-use Rattle.rls_expr.specs.Terms.{maybe_term}
+use Rattle.rls_guard.specs.rls_catalog.specs.rls_expr.specs.Terms.{maybe_term}
 use Rattle.rls_evaluation.specs.rls_source.specs.Askings.{followed_by, known}
 use Rattle.rls_evaluation.specs.Holding.{Evaluates}
 use Rattle.rls_evaluation.specs.Showing.{shows}

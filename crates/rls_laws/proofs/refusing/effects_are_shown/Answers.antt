@@ -1,5 +1,5 @@
 use Rattle.rls_laws.proofs.Ending.{effect_shown, refusal_audited}
-use Rattle.rls_laws.proofs.Explained.{audit_shown}
+use Rattle.rls_laws.proofs.Explained.{audit_first, audit_shown}
 use Rattle.rls_laws.proofs.Recording.{after_shown}
 use Rattle.rls_laws.proofs.refusing.effects_are_shown.Goals as goal
 
@@ -14,3 +14,6 @@ returns-clause-events c = after_shown c.statement_means.ensures
 
 pub returns-clause-audits : goal.returns-clause-audits
 returns-clause-audits c = audit_shown
+
+pub returns-clause-keys : goal.returns-clause-keys
+returns-clause-keys c = audit_first

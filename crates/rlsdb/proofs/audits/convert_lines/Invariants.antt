@@ -1,5 +1,5 @@
 use Rattle.std.proofs.Common.{◌≡◌, ◌++◌, ℕ, List}
-use Rattle.rls_laws.specs.rls_check.specs.Wholes.{HasConverted}
+use Rattle.rls_check.specs.Wholes.{HasConverted}
 use Rattle.rlsdb.specs.AuditLines.{ended_lines}
 use Rattle.rlsdb.proofs.LineLemmas.{SoFar}
 use Rattle.rlsdb.proofs.audits.convert_lines.Given as goal

@@ -1,5 +1,5 @@
 use Rattle.std.proofs.Common.{ℕ, List, subst, ◌++◌, ◌∷◌, []}
-use Rattle.rls_laws.specs.rls_check.specs.Wholes.{HasRead}
+use Rattle.rls_check.specs.Wholes.{HasRead}
 use Rattle.rlsdb.specs.AuditLines.{ReadsNext}
 use Rattle.rlsdb.specs.declared.audit_file.NextLine.TheVariants as came
 use Rattle.rlsdb.proofs.LineLemmas.{last_read, one_more}

@@ -1,5 +1,5 @@
 use Rattle.std.proofs.Common.{ℕ, List}
-use Rattle.rls_laws.specs.rls_check.specs.Wholes.{HasRead}
+use Rattle.rls_check.specs.Wholes.{HasRead}
 use Rattle.rlsdb.proofs.LineLemmas.{SoFar}
 use Rattle.rlsdb.proofs.audits.read_lines.Given as goal
 

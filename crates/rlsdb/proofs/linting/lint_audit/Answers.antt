@@ -1,5 +1,5 @@
 use Rattle.std.proofs.Common.{ap, subst, ◌∙◌}
-use Rattle.rls_laws.specs.rls_check.specs.Walking.{IsWalk}
+use Rattle.rls_check.specs.Walking.{IsWalk}
 use Rattle.rlsdb.specs.Linting.{later_of}
 use Rattle.rlsdb.proofs.LintLemmas.{unordered, without}
 use Rattle.rlsdb.proofs.linting.lint_audit.Goals as goal

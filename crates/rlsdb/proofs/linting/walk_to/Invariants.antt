@@ -1,6 +1,6 @@
 use Rattle.std.proofs.Common.{◌≡◌, Option, length}
-use Rattle.rls_laws.specs.rls_check.specs.declared.finding.Finding.{Finding}
-use Rattle.rls_laws.specs.rls_check.specs.Walking.{left, state_left}
+use Rattle.rls_check.specs.declared.finding.Finding.{Finding}
+use Rattle.rls_check.specs.Walking.{left, state_left}
 use Rattle.rls_lint.specs.Naming.{IsNamed}
 use Rattle.rlsdb.specs.Linting.{FirstDiffers, first_or, state_before}
 use Rattle.rlsdb.proofs.LintLemmas.{Follow}

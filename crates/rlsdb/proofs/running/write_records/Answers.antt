@@ -1,9 +1,9 @@
 use Rattle.std.proofs.Common.{◌≡◌, refl, drop, [], ap, subst, drop_of_length-le}
 use Rattle.std.specs.List.{All}
-use Rattle.rls_laws.specs.rls_check.specs.rls_audit.specs.Lines as shown
-use Rattle.rls_laws.specs.rls_check.specs.rls_audit.specs.Lines.{lines_from}
-use Rattle.rls_laws.specs.rls_check.specs.rls_audit.specs.Printed.{printed_line, texts_from}
-use Rattle.rls_laws.specs.rls_check.specs.rls_audit.specs.Showing.{AreTexts}
+use Rattle.rls_check.specs.rls_audit.specs.Lines as shown
+use Rattle.rls_check.specs.rls_audit.specs.Lines.{lines_from}
+use Rattle.rls_check.specs.rls_audit.specs.Printed.{printed_line, texts_from}
+use Rattle.rls_check.specs.rls_audit.specs.Showing.{AreTexts}
 use Rattle.rlsdb.specs.AuditLines.{WritesRecords}
 use Rattle.rlsdb.proofs.BookLemmas.{ended, led}
 use Rattle.rlsdb.proofs.running.write_records.Goals as goal

@@ -1,6 +1,6 @@
 use Rattle.std.proofs.Common.{◌≡◌, ℕ, suc, List, drop}
 use Rattle.std.specs.List.{All}
-use Rattle.rls_laws.specs.rls_check.specs.rls_audit.specs.Showing.{AreTexts}
+use Rattle.rls_check.specs.rls_audit.specs.Showing.{AreTexts}
 use Rattle.rlsdb.specs.AuditLines.{WritesRecords}
 use Rattle.rlsdb.proofs.running.write_records.Given as goal
 

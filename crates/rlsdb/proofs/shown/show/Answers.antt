@@ -1,6 +1,6 @@
 use Rattle.std.proofs.Common.{ap, subst, ◌∙◌}
-use Rattle.rls_laws.specs.rls_check.specs.ShownAudits.{missing_txn}
-use Rattle.rls_laws.specs.rls_check.specs.Walking.{IsWalk}
+use Rattle.rls_check.specs.ShownAudits.{missing_txn}
+use Rattle.rls_check.specs.Walking.{IsWalk}
 use Rattle.rlsdb.proofs.ShownLemmas.{unordered, without}
 use Rattle.rlsdb.proofs.shown.show.Goals as goal
 

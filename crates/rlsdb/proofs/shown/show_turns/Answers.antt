@@ -1,7 +1,7 @@
 use Rattle.std.proofs.Common.{subst}
 use Rattle.std.specs.Prelude.{IfSome}
-use Rattle.rls_laws.specs.rls_check.specs.declared.walking.Turn.{Turn}
-use Rattle.rls_laws.specs.rls_check.specs.Walking.{IsNext, left}
+use Rattle.rls_check.specs.declared.walking.Turn.{Turn}
+use Rattle.rls_check.specs.Walking.{IsNext, left}
 use Rattle.rlsdb.proofs.ShownLemmas.{found_on, written_on}
 use Rattle.rlsdb.proofs.shown.show_turns.Goals as goal
 

@@ -1,8 +1,8 @@
 use Rattle.std.proofs.Common.{◌≡◌, ◌++◌, Option, length}
-use Rattle.rls_laws.specs.rls_check.specs.declared.finding.Finding.{Finding}
-use Rattle.rls_laws.specs.rls_check.specs.ShownAudits.{FirstDiffers}
-use Rattle.rls_laws.specs.rls_check.specs.ShownTexts.{shown_text}
-use Rattle.rls_laws.specs.rls_check.specs.Walking.{left}
+use Rattle.rls_check.specs.declared.finding.Finding.{Finding}
+use Rattle.rls_check.specs.ShownAudits.{FirstDiffers}
+use Rattle.rls_check.specs.ShownTexts.{shown_text}
+use Rattle.rls_check.specs.Walking.{left}
 use Rattle.rlsdb.proofs.ShownLemmas.{first_or}
 use Rattle.rlsdb.proofs.shown.show_turns.Given as goal
 

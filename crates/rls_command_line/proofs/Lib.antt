@@ -1,0 +1,3 @@
+pub mod CommandLineLemmas
+pub mod ShownLineLemmas
+pub mod WordLemmas

@@ -1,0 +1,8 @@
+use Rattle.std.proofs.Common.{◌∙◌, ap₂}
+use Rattle.clap.specs.Words.{with_rule}
+use Rattle.rls_command_line.proofs.command_line.test_command.Goals as goal
+
+pub returns-clause-app : goal.returns-clause-app
+returns-clause-app c =
+    c.in_ok-command-2.ensures.shape c.write.ensures.local
+    ∙ ap₂ with_rule (c.in_ok-command.ensures.shape c.transcripts.ensures.local ∙ ap₂ with_rule c.named-command.ensures.app c.transcripts.ensures.rule) c.write.ensures.rule

@@ -1,0 +1,12 @@
+use Rattle.std.proofs.Common.{ℕ, List, ◌++◌, length, map}
+use Rattle.std.specs.List.{AllZip}
+use Rattle.rls_value.specs.declared.row.RowId.{RowId}
+use Rattle.rls_command_line.specs.Words.{IsRowText}
+use Rattle.rls_command_line.proofs.shown_line.rows_named.Given as goal
+
+-- whatever the texts that are left are completes those so far
+abbrev pub invariant-loop-texts : goal.invariant-loop-texts
+invariant-loop-texts l = (more : List RowId) → AllZip IsRowText (map (λ text. text.now) l.texts) more → AllZip IsRowText (map (λ text. text.now) l.fn.texts) (l.rows ++ more)
+
+abbrev pub decreases-loop-texts : goal.decreases-loop-texts
+decreases-loop-texts l = length l.texts

@@ -1,0 +1,12 @@
+//! The command line of the program `rlsdb`: its commands with their arguments, and what words ask for.
+#![tactic(auto)]
+
+mod command_line;
+mod lint_line;
+mod shown_line;
+mod words;
+
+pub use command_line::{Mistake, request_of};
+pub use words::{
+    Checks, Explain, Lint, Request, ScriptFile, Shown, Tests, Wanted, is_output, is_output_wanted,
+};

@@ -1,3 +1,0 @@
-pub mod Deep
-pub mod Leading
-pub use Rattle.rls_expansion

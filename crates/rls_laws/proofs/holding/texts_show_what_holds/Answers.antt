@@ -1,6 +1,0 @@
-use Rattle.rls_check.specs.Audited.{lines_of}
-use Rattle.rls_laws.proofs.Explained.{audit_shown}
-use Rattle.rls_laws.proofs.holding.texts_show_what_holds.Goals as goal
-
-pub returns : goal.returns
-returns c = λ texts audit is holds. c.lines_are_shown.ensures.texts texts audit holds is (audit_shown (lines_of audit.transactions audit.order) holds)
