@@ -28,8 +28,8 @@ FUNCTION = re.compile(r"^( *)(pub )?fn (\w+)")
 
 # Calls whose errors could say so, and which take no memory: what they give is shared, or made of what they are given.
 FREE = set("""Name::copy Value::copy Row::copy Object::copy Why::copy GrantFault::copy Cause::copy Refusal::copy Grant::copy Verdict::copy combine
-    Catalog::copy State::copy Record::copy Audited::copy_of Reader::finish Converter::finish""".split())
-NEVER = set("""Grants::copy SharedList::copy SharedMap::copy Text::copy Core::rollback Engine::close""".split())
+    Catalog::copy State::copy Record::copy""".split())
+NEVER = set("""Grants::copy SharedList::copy SharedMap::copy Text::copy Core::rollback Engine::close Reader::finish Converter::finish""".split())
 
 # Calls that have scenarios, and the public functions that are parts of them: what these ask for is asked for there.
 PARTS = {
@@ -72,7 +72,7 @@ WHOLE = {
     "run_threads": "Notes::join Plan::into_parts read_plan run_threads_telling",
     "request_of": "",
     "write_report": "Told::lines Told::of filled lines_told marked script_of split_lines tolds_of",
-    "line_of_record": "Decisions::copy_all in_order printed", "write_line": "push_escaped_line row_id_json row_values_json",
+    "line_of_record": "Audited::copy_of Decisions::copy_all in_order printed", "write_line": "push_escaped_line row_id_json row_values_json",
     "read_line": "", "findings": "Finding::line Named::follow Named::opening",
     "Reader::line": "", "Audit::check": "Committing::ends_in Committing::new Committing::put", "Audit::explain": "explain_row",
     "Why::lines": "", "Converter::line": "", "Audit::walk": "", "Walk::next": "", "Turn::shown": "outcomes",
