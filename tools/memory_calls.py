@@ -11,7 +11,7 @@ from crates import TOP, libraries, read, root_of
 # The crates whose calls are promised, from the lowest up.
 CRATES = """shared_map rls_value rls_expr rls_text rls_hints rls_printing rls_catalog rls_source rls_overlay rls_agreement rls_role rls_grant
     rls_verdict rls_policy rls_access rls_explain rls_lint rls_rows rls_siread rls_conflict rls_core rls_engine rls_script rls_transcript rls_session
-    rls_audit rls_check rls_command_line""".split()
+    rls_audit_lines rls_audit rls_check rls_command_line""".split()
 # The crates whose calls are parts of one of these: what they ask for is asked for there.
 INNER = {
     "shared": "parse", "rls_statement": "grant", "rls_codec": "read_line", "rls_recursion": "run_statement",
@@ -28,8 +28,8 @@ FUNCTION = re.compile(r"^( *)(pub )?fn (\w+)")
 
 # Calls whose errors could say so, and which take no memory: what they give is shared, or made of what they are given.
 FREE = set("""Name::copy Value::copy Row::copy Object::copy Why::copy GrantFault::copy Cause::copy Refusal::copy Grant::copy Verdict::copy combine
-    Catalog::copy State::copy Record::copy""".split())
-NEVER = set("""Grants::copy SharedList::copy SharedMap::copy Text::copy Core::rollback Engine::close Reader::finish Converter::finish""".split())
+    Catalog::copy State::copy Record::copy Audited::copy_of Reader::finish Converter::finish""".split())
+NEVER = set("""Grants::copy SharedList::copy SharedMap::copy Text::copy Core::rollback Engine::close""".split())
 
 # Calls that have scenarios, and the public functions that are parts of them: what these ask for is asked for there.
 PARTS = {
@@ -63,19 +63,19 @@ PARTS = {
     "Core::order": "Conflicts::order",
     "run": "Begin::copy Core::happen",
     "Session::execute": "Session::execute_at ask_of request_for",
+    "line_of_record": "Decisions::copy_all",
+    "Audit::check": "Committing::ends_in Committing::new Committing::put",
+    "Audit::explain": "explain_row",
+    "Turn::shown": "outcomes push_escaped_line row_id_json row_values_json",
 }
 
-# Calls that only runs of the program make, and their parts: they read a script or the command line, write answers, write and read the
-# lines of audits, or a command makes each.
+# Calls that only runs of the program make, and their parts: they read a script or the command line, or write answers or what is told
+# of them; and those of rls_lint, for whose paths crates.txt has no room.
 WHOLE = {
     "run_script": "read_script run_script_telling write_answer",
     "run_threads": "Notes::join Plan::into_parts read_plan run_threads_telling",
-    "request_of": "",
-    "write_report": "Told::lines Told::of filled lines_told marked script_of split_lines tolds_of",
-    "line_of_record": "Audited::copy_of Decisions::copy_all in_order printed", "write_line": "push_escaped_line row_id_json row_values_json",
-    "read_line": "", "findings": "Finding::line Named::follow Named::opening",
-    "Reader::line": "", "Audit::check": "Committing::ends_in Committing::new Committing::put", "Audit::explain": "explain_row",
-    "Why::lines": "", "Converter::line": "", "Audit::walk": "", "Walk::next": "", "Turn::shown": "outcomes",
+    "request_of": "", "write_report": "", "findings": "Finding::line Named::follow Named::opening have_same_contents rebuilding_script",
+    "Audit::list": "", "Listing::next": "", "write_numbered": "wheres_of",
 }
 
 

@@ -24,7 +24,7 @@ from crates import TOP, below, crates_of, libraries, read
 PAGES = ["CONTRIBUTING.md", "docs/ARCHITECTURE.md", "docs/DECISIONS.md", "docs/DEFINITIONS.md", "docs/PROVED.md"]
 AT_MOST = {"docs/DECISIONS.md": 25_000, "docs/DEFINITIONS.md": 15_000}
 TESTS = ["rls_tests", "rls_core_tests", "rls_session_tests"]
-WITHOUT_CONTRACTS = {"scenario", "refusals", *TESTS}
+WITHOUT_CONTRACTS = {"scenario", "refusals", "audit_refusals", *TESTS}
 TICKED = re.compile(r"`([^`]+)`")
 PATH = re.compile(r"(?:\.ci|bench|conformance|crates|docs|examples|tools)/[\w./-]*$")
 BOX = re.compile(r"^```.*?^```$", re.MULTILINE | re.DOTALL)

@@ -1,10 +1,5 @@
-pub mod AllLemmas
-pub mod AskedLemmas
-pub mod CuttingLemmas
 pub mod ExampleLemmas
 pub mod MeaningLemmas
 pub mod OrderLemmas
-pub mod ParsingLemmas
-pub mod RefusalLemmas
 pub mod ShowingLemmas
 pub mod ZipLemmas

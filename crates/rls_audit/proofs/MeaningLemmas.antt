@@ -3,13 +3,13 @@ use Rattle.std.specs.Prelude.{◌≡◌, ℕ, true, List, [], ◌∷◌, Some}
 use Rattle.std.specs.List.{All, AllByRecursion, AllZip}
 use Rattle.std.proofs.lemmas.List.Elements.{All-from_recursion}
 use Rattle.rls_expr.specs.declared.policy.Policy.{Policy}
-use Rattle.rls_audit.specs.declared.changes.Changed.{Changed}
-use Rattle.rls_audit.specs.declared.changes.Changed.TheVariants as c
-use Rattle.rls_audit.specs.declared.lines.Answered.{Answered}
-use Rattle.rls_audit.specs.declared.lines.Line.{Line}
-use Rattle.rls_audit.specs.declared.lines.Line.TheVariants.{Head, Txn, End}
+use Rattle.rls_audit_lines.specs.declared.changes.Changed.{Changed}
+use Rattle.rls_audit_lines.specs.declared.changes.Changed.TheVariants as c
+use Rattle.rls_audit_lines.specs.declared.lines.Answered.{Answered}
+use Rattle.rls_audit_lines.specs.declared.lines.Line.{Line}
+use Rattle.rls_audit_lines.specs.declared.lines.Line.TheVariants.{Head, Txn, End}
 use Rattle.rls_audit.specs.Lines as shown
-use Rattle.rls_audit.specs.Reading.{HasStatement, HasPolicies, IsPolicyText, TextsParse, line_found, line_text}
+use Rattle.rls_audit_lines.specs.Reading.{HasStatement, HasPolicies, IsPolicyText, TextsParse, line_found, line_text}
 use Rattle.rls_audit.specs.Shows.{Means, SpellsPolicy, ShowsContent, ShowsChanged, ShowsAnswered, ShowsLine}
 
 statements_there : (xs : List Answered) (its : List shown.Answered) → AllZip ShowsAnswered xs its → AllByRecursion HasStatement xs

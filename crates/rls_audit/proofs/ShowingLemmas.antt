@@ -16,24 +16,25 @@ use Rattle.rls_statement.specs.declared.statement.Statement.{Statement}
 use Rattle.rls_core.specs.rls_guard.specs.{declared.reply.Reply.Reply, declared.reply.Decision.Decision, declared.effect.Effect.Effect}
 use Rattle.rls_core.specs.rls_guard.specs.declared.effect.Effect.TheVariants as effect
 use Rattle.rls_core.specs.rls_guard.specs.Effects.{changes_of}
-use Rattle.rls_text.specs.{ParseResults.IsParseResult, ParseResults.IsSpelled, ParseResults.first_limit, Grammar.Spells, Words.words_of, declared.token.Token.Token}
+use Rattle.rls_audit_lines.specs.rls_text.specs.{ParseResults.IsParseResult, ParseResults.IsSpelled, ParseResults.first_limit, Grammar.Spells, Words.words_of, declared.token.Token.Token}
 use Rattle.rls_printing.specs.Outputs.{output_tokens_text}
 use Rattle.rls_printing.specs.StatementForms as form
 use Rattle.rls_core.specs.Posted.{Posted, without_decisions}
 use Rattle.rls_core.specs.Posts.{statement_of, effect_of}
 use Rattle.rls_core.specs.Records.{Record}
 use Rattle.rls_value.specs.declared.object.Object.TheVariants as o
-use Rattle.rls_audit.specs.declared.contents.GrantShape.{GrantShape}
-use Rattle.rls_audit.specs.declared.contents.TableShape.{TableShape}
-use Rattle.rls_audit.specs.declared.changes.Changed.{Changed}
-use Rattle.rls_audit.specs.declared.changes.Changed.TheVariants as changed
-use Rattle.rls_audit.specs.declared.lines.Answered.{Answered}
+use Rattle.rls_audit_lines.specs.declared.contents.GrantShape.{GrantShape}
+use Rattle.rls_audit_lines.specs.declared.contents.TableShape.{TableShape}
+use Rattle.rls_audit_lines.specs.declared.changes.Changed.{Changed}
+use Rattle.rls_audit_lines.specs.declared.changes.Changed.TheVariants as changed
+use Rattle.rls_audit_lines.specs.declared.lines.Answered.{Answered}
 use Rattle.rls_audit.specs.Lines.{written_by, answered, ordered_changes, shown, grant_shape}
 use Rattle.rls_core.specs.rls_guard.specs.Effects.{reply_of}
 use Rattle.rls_audit.specs.Lines as lines
-use Rattle.rls_audit.specs.Showing.{IsSpellable, IsPolicySpellable, ArePoliciesSpellable, AreTexts, CanTell, CanShow, Fails, Gives}
-use Rattle.rls_audit.specs.declared.showing.Unshown.{Unshown}
-use Rattle.rls_audit.specs.declared.showing.Unshown.TheVariants as unshown
+use Rattle.rls_audit.specs.Showing.{IsSpellable, IsPolicySpellable, ArePoliciesSpellable, AreTexts, CanTell, CanShow}
+use Rattle.rls_audit_lines.specs.Unshown.{Fails, Gives}
+use Rattle.rls_audit_lines.specs.declared.unshown.Unshown.{Unshown}
+use Rattle.rls_audit_lines.specs.declared.unshown.Unshown.TheVariants as unshown
 use Rattle.rls_audit.specs.Shows.{NamesColumn, SpellsPolicy, ShowsTable, ShowsChanged, ShowsAnswered, ShowsLine}
 use Rattle.rls_audit.specs.ShownParts.{ShowsPolicy, ShowsPost, ShowsChange, Adds}
 use Rattle.rls_audit.specs.Printed.{printed_text, policy_text, column_name, table_shape, printed_change, printed_answer, printed_answers, printed_line, line_of}

@@ -13,7 +13,7 @@ use Rattle.rls_core.specs.rls_guard.specs.{declared.reply.Reply.Reply, declared.
 use Rattle.rls_core.specs.rls_guard.specs.declared.effect.Effect.TheVariants as effect
 use Rattle.rls_core.specs.rls_access.specs.Transactions.{Begin}
 use Rattle.rls_core.specs.Records.{Record}
-use Rattle.rls_audit.specs.declared.contents.GrantShape.{GrantShape}
+use Rattle.rls_audit_lines.specs.declared.contents.GrantShape.{GrantShape}
 
 -- what is shown of a grant: its column by its name alone, whose place is that among the table's columns
 abbrev pub grant_shape : Grant → GrantShape

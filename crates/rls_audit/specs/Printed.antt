@@ -10,13 +10,13 @@ use Rattle.rls_printing.specs.Outputs.{output_tokens_text}
 use Rattle.rls_printing.specs.StatementForms as form
 use Rattle.rls_core.specs.rls_guard.specs.declared.effect.Effect.{Effect}
 use Rattle.rls_core.specs.Records.{Record}
-use Rattle.rls_audit.specs.declared.contents.TableShape.{TableShape}
-use Rattle.rls_audit.specs.declared.changes.Changed.{Changed}
-use Rattle.rls_audit.specs.declared.changes.Changed.TheVariants as changed
-use Rattle.rls_audit.specs.declared.lines.Answered.{Answered}
-use Rattle.rls_audit.specs.declared.lines.Line.{Line}
-use Rattle.rls_audit.specs.declared.lines.Line.TheVariants.{Head, Txn, End}
-use Rattle.rls_audit.specs.Reading.{line_text}
+use Rattle.rls_audit_lines.specs.declared.contents.TableShape.{TableShape}
+use Rattle.rls_audit_lines.specs.declared.changes.Changed.{Changed}
+use Rattle.rls_audit_lines.specs.declared.changes.Changed.TheVariants as changed
+use Rattle.rls_audit_lines.specs.declared.lines.Answered.{Answered}
+use Rattle.rls_audit_lines.specs.declared.lines.Line.{Line}
+use Rattle.rls_audit_lines.specs.declared.lines.Line.TheVariants.{Head, Txn, End}
+use Rattle.rls_audit_lines.specs.Reading.{line_text}
 use Rattle.rls_audit.specs.Lines.{grant_shape, ordered_changes}
 use Rattle.rls_core.specs.rls_guard.specs.Effects.{reply_of, decisions_of}
 

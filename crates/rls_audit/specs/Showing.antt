@@ -1,4 +1,4 @@
--- Which records a line can show, and what is given of them.
+-- Which records a line can show.
 use Rattle.std.specs.Prelude.{◌<◌, ℕ, length, List, Result, Ok, Err}
 use Rattle.std.specs.List.{All}
 use Rattle.rls_value.specs.declared.refusal.Refusal.{Refusal}
@@ -11,11 +11,9 @@ use Rattle.rls_statement.specs.declared.statement.Statement.TheVariants.{CreateP
 use Rattle.rls_core.specs.rls_guard.specs.declared.effect.Effect.{Effect}
 use Rattle.rls_core.specs.rls_guard.specs.declared.effect.Effect.TheVariants as effect
 use Rattle.rls_core.specs.rls_guard.specs.Effects.{changes_of}
-use Rattle.rls_text.specs.{ParseResults.IsSpelled, declared.token.Token.Token}
+use Rattle.rls_audit_lines.specs.rls_text.specs.{ParseResults.IsSpelled, declared.token.Token.Token}
 use Rattle.rls_core.specs.Records.{Record}
-use Rattle.rls_audit.specs.RefusalCodecs.{IsAudited}
-use Rattle.rls_audit.specs.declared.showing.Unshown.{Unshown}
-use Rattle.rls_audit.specs.declared.showing.Unshown.TheVariants as unshown
+use Rattle.rls_audit_lines.specs.RefusalCodecs.{IsAudited}
 
 -- ---- what texts spell
 
@@ -52,13 +50,3 @@ CanTell _ = Unit {0}
 abbrev pub CanShow : Effect → Type 0
 CanShow (effect.Done reply decisions changes role) = All CanTell changes
 CanShow (effect.Refused refusal decisions) = IsAudited refusal
-
--- there is nothing, because it can't be shown or memory ran out
-abbrev pub Fails : Unshown → Type 0 → Type 0
-Fails unshown.Never Can = ¬ Can
-Fails unshown.NoMemory Can = Unit {0}
-
--- what shows what it is to show, or nothing where that can't be shown, unless memory ran out
-abbrev pub Gives : {A : Type 0} → Result A Unshown → Type 0 → (A → Type 0) → Type 0
-Gives (Ok x) Can Shows = Shows x
-Gives (Err why) Can Shows = Fails why Can

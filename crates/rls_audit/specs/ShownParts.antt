@@ -4,8 +4,8 @@ use Rattle.std.specs.List.{AllZip}
 use Rattle.rls_expr.specs.declared.policy.Policy.{Policy}
 use Rattle.rls_core.specs.rls_guard.specs.rls_catalog.specs.declared.change.Change.{Change}
 use Rattle.rls_core.specs.Posted.{Posted}
-use Rattle.rls_audit.specs.declared.changes.Changed.{Changed}
-use Rattle.rls_audit.specs.declared.lines.Answered.{Answered}
+use Rattle.rls_audit_lines.specs.declared.changes.Changed.{Changed}
+use Rattle.rls_audit_lines.specs.declared.lines.Answered.{Answered}
 use Rattle.rls_audit.specs.Lines.{written_by, answered_with}
 use Rattle.rls_audit.specs.Printed.{policy_text, printed_change, printed_answer}
 use Rattle.rls_audit.specs.Showing.{IsSpellable, IsPolicySpellable, ArePoliciesSpellable}

@@ -3,18 +3,18 @@ use Rattle.std.specs.Prelude.{◌≡◌, ℕ, List, Bool, Some, option_map, slic
 use Rattle.std.specs.List.{AllZip}
 use Rattle.rls_expr.specs.{declared.policy.Policy.Policy, declared.table.TableDef.TableDef, declared.table.Column.Column}
 use Rattle.rls_statement.specs.declared.statement.Statement.TheVariants.{CreatePolicy}
-use Rattle.rls_text.specs.{ParseResults.IsSpelled, Words.words_of}
-use Rattle.rls_audit.specs.declared.contents.TableShape.{TableShape}
-use Rattle.rls_audit.specs.declared.changes.Changed.{Changed}
-use Rattle.rls_audit.specs.declared.changes.Changed.TheVariants as c
-use Rattle.rls_audit.specs.declared.lines.Answered.{Answered}
-use Rattle.rls_audit.specs.declared.lines.Shown.{Shown}
-use Rattle.rls_audit.specs.declared.lines.Line.{Line}
-use Rattle.rls_audit.specs.declared.lines.Line.TheVariants.{Head, Txn, End}
-use Rattle.rls_audit.specs.Asked.{IsAsked}
-use Rattle.rls_audit.specs.ChangeCodecs.{object_of}
+use Rattle.rls_audit_lines.specs.rls_text.specs.{ParseResults.IsSpelled, Words.words_of}
+use Rattle.rls_audit_lines.specs.declared.contents.TableShape.{TableShape}
+use Rattle.rls_audit_lines.specs.declared.changes.Changed.{Changed}
+use Rattle.rls_audit_lines.specs.declared.changes.Changed.TheVariants as c
+use Rattle.rls_audit_lines.specs.declared.lines.Answered.{Answered}
+use Rattle.rls_audit_lines.specs.declared.lines.Shown.{Shown}
+use Rattle.rls_audit_lines.specs.declared.lines.Line.{Line}
+use Rattle.rls_audit_lines.specs.declared.lines.Line.TheVariants.{Head, Txn, End}
+use Rattle.rls_audit_lines.specs.Asked.{IsAsked}
+use Rattle.rls_audit_lines.specs.ChangeCodecs.{object_of}
 use Rattle.rls_audit.specs.Lines as shown
-use Rattle.rls_audit.specs.Reading.{MeansLine}
+use Rattle.rls_audit_lines.specs.Reading.{MeansLine}
 
 -- the column at the place has the name
 abbrev pub NamesColumn : List Column → List ℕ → ℕ → Type 0

@@ -5,9 +5,9 @@ ghost use Rattle.rls_core.specs.Headline.{AfterEvents};
 ghost use Rattle.rls_audit.specs.Audits.{IsAudit, AuditHolds, AuditsHold};
 ghost use Rattle.rls_audit.specs.Lines as shown;
 ghost use Rattle.rls_audit.specs.Lines.{Head, End};
-ghost use Rattle.rls_audit.specs.Reading.{line_found, line_text};
+ghost use Rattle.rls_audit_lines.specs.Reading.{line_found, line_text};
 ghost use Rattle.rls_audit.specs.Shows.{Means, ShowsLine};
-ghost use Rattle.rls_audit.specs.declared.lines.Line.{Line};
+ghost use Rattle.rls_audit_lines.specs.declared.lines.Line.{Line};
 
 use rls_core::{committed_are_serial, events_keep};
 

@@ -7,17 +7,15 @@ ghost use Rattle.rls_core.specs.rls_guard.specs.Effects.{reply_of};
 ghost use Rattle.rls_audit.specs.Lines as spec;
 ghost use Rattle.rls_audit.specs.Lines.{grant_shape, in_object_order, ordered_changes};
 ghost use Rattle.rls_audit.specs.Printed.{line_of, printed_line, printed_text};
-ghost use Rattle.rls_audit.specs.Showing.{IsSpellable, AreTexts, HasKey, CanTell, CanShow, Gives};
+ghost use Rattle.rls_audit.specs.Showing.{IsSpellable, AreTexts, HasKey, CanTell, CanShow};
+ghost use Rattle.rls_audit_lines.specs.Unshown.{Gives};
 ghost use Rattle.rls_audit.specs.Shows.{NamesColumn, ShowsTable, ShowsLine};
 ghost use Rattle.rls_audit.specs.ShownParts.{Adds, ShowsChange, ShowsPost, ShowsPolicy};
-ghost use Rattle.rls_text.specs.{ParseResults.IsSpelled, Words.words_of};
+ghost use Rattle.rls_audit_lines.specs.rls_text.specs.{ParseResults.IsSpelled, Words.words_of};
 
-use crate::changes::Changed;
-use crate::contents::{GrantShape, TableShape};
 use crate::copying::copies;
-use crate::lines::{Answered, Line, Shown};
 use crate::ordering::{are_in_order, in_order};
-use crate::refusals::Audited;
+use rls_audit_lines::{Answered, Audited, Changed, GrantShape, Line, Shown, TableShape, Unshown};
 use rls_core::rls_guard::rls_catalog::shared_map::Share;
 use rls_core::rls_guard::rls_catalog::{Change, Grant, Grants, Keyed, Policies};
 use rls_core::rls_guard::{Effect, Reply};
@@ -26,35 +24,7 @@ use rls_expr::{Column, Policy, TableDef};
 use rls_printing::{print, print_policy};
 use rls_statement::Statement;
 use rls_value::{Items, Name, Row, Text};
-use std::alloc::{AllocError, AllocFailed, Global};
-
-/// Why there is no line.
-#[derive(Drop)]
-pub enum Unshown {
-    NoMemory,
-    /// No audit can say this: a refusal that none has, or a primary key with a column that isn't there.
-    Never,
-}
-
-impl From<AllocError> for Unshown {
-    ghost use Rattle.rls_audit.specs.declared.showing.Unshown.TheVariants.{NoMemory};
-
-    ghost from_gives = { λ _ unshown. unshown ≡ NoMemory };
-
-    fn from(_error: AllocError) -> Unshown {
-        Unshown::NoMemory
-    }
-}
-
-impl<T: Drop> From<AllocFailed<T>> for Unshown {
-    ghost use Rattle.rls_audit.specs.declared.showing.Unshown.TheVariants.{NoMemory};
-
-    ghost from_gives = { λ _ unshown. unshown ≡ NoMemory };
-
-    fn from(_failed: AllocFailed<T>) -> Unshown {
-        Unshown::NoMemory
-    }
-}
+use std::alloc::{AllocError, Global};
 
 /// The line of the record with this commit, its statements and policies as they are printed. Where texts spell these, it shows just
 /// the record.

@@ -5,13 +5,13 @@ use Rattle.serde_json.specs.Data.{Data}
 use Rattle.serde_json.specs.Find.{get}
 use Rattle.serde_json.specs.Read.{read}
 use Rattle.rls_codec.specs.Looking.{has_size, paired, found_where, natural_found}
-use Rattle.rls_audit.specs.declared.lines.Line.{Line}
-use Rattle.rls_audit.specs.declared.lines.Line.TheVariants.{Head}
-use Rattle.rls_audit.specs.LineCodecs.{ShownShape, LineShape, line, line_from, number_of, says, shown_fields, format_number}
-use Rattle.rls_audit.specs.LineCodecs as codec
+use Rattle.rls_audit.specs.rls_audit_lines.specs.declared.lines.Line.{Line}
+use Rattle.rls_audit.specs.rls_audit_lines.specs.declared.lines.Line.TheVariants.{Head}
+use Rattle.rls_audit.specs.rls_audit_lines.specs.LineCodecs.{ShownShape, LineShape, line, line_from, number_of, says, shown_fields, format_number}
+use Rattle.rls_audit.specs.rls_audit_lines.specs.LineCodecs as codec
 use Rattle.rls_codec.specs.Codecs.{natural, list_of}
 use Rattle.rls_codec.specs.Objects.{field, no_fields}
-use Rattle.rls_audit.specs.Reading.{MeansLine}
+use Rattle.rls_audit.specs.rls_audit_lines.specs.Reading.{MeansLine}
 
 -- a line of one of its shapes
 abbrev shaped : Bool → Bool → Bool → Option ShownShape → Option (ℕ × (List ℕ × Unit {0})) → Option (Unit {0} × Unit {0}) → Option LineShape

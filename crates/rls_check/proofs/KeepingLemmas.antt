@@ -17,16 +17,16 @@ use Rattle.rls_catalog.specs.declared.change.Change.{Change}
 use Rattle.rls_catalog.specs.declared.change.Change.TheVariants as c
 use Rattle.rls_statement.specs.{declared.command.Command.Command, declared.statement.Statement.Statement}
 use Rattle.rls_statement.specs.declared.statement.Statement.TheVariants as st
-use Rattle.rls_audit.specs.rls_text.specs.{ParseResults.IsParseResult, ParseResults.IsSpelled, Words.words_of, declared.token.Token.Token}
-use Rattle.rls_audit.specs.rls_text.specs.Commands.{AnswersCommand}
-use Rattle.rls_audit.specs.Reading.{IsStatementText, IsPolicyText}
+use Rattle.rls_audit.specs.rls_audit_lines.specs.rls_text.specs.{ParseResults.IsParseResult, ParseResults.IsSpelled, Words.words_of, declared.token.Token.Token}
+use Rattle.rls_audit.specs.rls_audit_lines.specs.rls_text.specs.Commands.{AnswersCommand}
+use Rattle.rls_audit.specs.rls_audit_lines.specs.Reading.{IsStatementText, IsPolicyText}
 use Rattle.rls_audit.specs.Shows.{NamesColumn, SpellsPolicy, ShowsChanged}
 use Rattle.rls_audit.specs.Showing.{HasKey, CanTell}
 use Rattle.rls_audit.specs.Lines.{Content, Written, grant_shape, written_by}
 use Rattle.rls_audit.specs.Lines as content
-use Rattle.rls_audit.specs.declared.contents.TableShape.{TableShape}
-use Rattle.rls_audit.specs.declared.changes.Changed.{Changed}
-use Rattle.rls_audit.specs.declared.changes.Changed.TheVariants as changed
+use Rattle.rls_audit.specs.rls_audit_lines.specs.declared.contents.TableShape.{TableShape}
+use Rattle.rls_audit.specs.rls_audit_lines.specs.declared.changes.Changed.{Changed}
+use Rattle.rls_audit.specs.rls_audit_lines.specs.declared.changes.Changed.TheVariants as changed
 use Rattle.rls_check.specs.declared.transaction.Put.{Put}
 use Rattle.rls_check.specs.declared.transaction.Put.TheVariants as put
 use Rattle.rls_check.specs.Audited.{written_of}

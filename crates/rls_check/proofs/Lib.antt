@@ -20,3 +20,4 @@ pub mod OneAuditLemmas
 pub mod WalkingLemmas
 pub mod WalkedLemmas
 pub mod ShownObjectLemmas
+pub mod ListingLemmas

@@ -11,18 +11,18 @@ use Rattle.rls_catalog.specs.declared.change.Change.{Change}
 use Rattle.rls_explain.specs.rls_meaning.specs.rls_guard.specs.{declared.reply.Reply.Reply, declared.reply.Decision.Decision, declared.effect.Effect.Effect, Effects.changes_of}
 use Rattle.rls_audit.specs.rls_access.specs.Transactions.{Begin}
 use Rattle.rls_audit.specs.rls_core.specs.Records.{Record, record_at}
-use Rattle.rls_audit.specs.declared.contents.TableShape.{TableShape}
-use Rattle.rls_audit.specs.declared.changes.Changed.{Changed}
-use Rattle.rls_audit.specs.declared.changes.Changed.TheVariants as c
-use Rattle.rls_audit.specs.declared.lines.Answered.{Answered}
-use Rattle.rls_audit.specs.declared.lines.Shown.{Shown}
-use Rattle.rls_audit.specs.declared.lines.Line.{Line}
-use Rattle.rls_audit.specs.declared.lines.Line.TheVariants as line
+use Rattle.rls_audit.specs.rls_audit_lines.specs.declared.contents.TableShape.{TableShape}
+use Rattle.rls_audit.specs.rls_audit_lines.specs.declared.changes.Changed.{Changed}
+use Rattle.rls_audit.specs.rls_audit_lines.specs.declared.changes.Changed.TheVariants as c
+use Rattle.rls_audit.specs.rls_audit_lines.specs.declared.lines.Answered.{Answered}
+use Rattle.rls_audit.specs.rls_audit_lines.specs.declared.lines.Shown.{Shown}
+use Rattle.rls_audit.specs.rls_audit_lines.specs.declared.lines.Line.{Line}
+use Rattle.rls_audit.specs.rls_audit_lines.specs.declared.lines.Line.TheVariants as line
 use Rattle.rls_audit.specs.Audits.{AuditHolds, AreRecords, numbers_at}
-use Rattle.rls_audit.specs.ChangeCodecs as codec
+use Rattle.rls_audit.specs.rls_audit_lines.specs.ChangeCodecs as codec
 use Rattle.rls_audit.specs.Lines.{Content, Written, written_by, content_of, answered, lines_from, audit_of, ordered_changes, in_object_order}
 use Rattle.rls_audit.specs.Lines as lines
-use Rattle.rls_audit.specs.Reading.{MeansLine}
+use Rattle.rls_audit.specs.rls_audit_lines.specs.Reading.{MeansLine}
 use Rattle.rls_audit.specs.Shows.{NamesColumn, ShowsTable, ShowsContent, ShowsChanged, ShowsAnswered, ShowsTxn, ShowsLine, Means}
 use Rattle.rls_check.specs.declared.transaction.Answer.{Answer}
 use Rattle.rls_check.specs.declared.transaction.Put.{Put}

@@ -9,13 +9,13 @@ use Rattle.rls_catalog.specs.declared.change.Change.TheVariants as c
 use Rattle.rls_explain.specs.rls_meaning.specs.rls_guard.specs.{declared.effect.Effect.Effect, Effects.changes_of}
 use Rattle.rls_explain.specs.rls_meaning.specs.rls_guard.specs.declared.effect.Effect.TheVariants as effect
 use Rattle.rls_audit.specs.rls_core.specs.Records.{Record}
-use Rattle.rls_audit.specs.declared.contents.TableShape.{TableShape}
-use Rattle.rls_audit.specs.declared.changes.Changed.{Changed}
-use Rattle.rls_audit.specs.declared.changes.Changed.TheVariants as changed
-use Rattle.rls_audit.specs.declared.lines.Answered.{Answered}
-use Rattle.rls_audit.specs.declared.lines.Shown.{Shown}
-use Rattle.rls_audit.specs.declared.lines.Line.{Line}
-use Rattle.rls_audit.specs.declared.lines.Line.TheVariants as line
+use Rattle.rls_audit.specs.rls_audit_lines.specs.declared.contents.TableShape.{TableShape}
+use Rattle.rls_audit.specs.rls_audit_lines.specs.declared.changes.Changed.{Changed}
+use Rattle.rls_audit.specs.rls_audit_lines.specs.declared.changes.Changed.TheVariants as changed
+use Rattle.rls_audit.specs.rls_audit_lines.specs.declared.lines.Answered.{Answered}
+use Rattle.rls_audit.specs.rls_audit_lines.specs.declared.lines.Shown.{Shown}
+use Rattle.rls_audit.specs.rls_audit_lines.specs.declared.lines.Line.{Line}
+use Rattle.rls_audit.specs.rls_audit_lines.specs.declared.lines.Line.TheVariants as line
 use Rattle.rls_audit.specs.Audits.{AuditHolds}
 use Rattle.rls_audit.specs.Lines.{written_by, comes_before, in_object_order, ordered_changes}
 use Rattle.rls_audit.specs.Lines as lines

@@ -6,7 +6,7 @@ use Rattle.serde_json.specs.Written.{has_float, items_have_float}
 use Rattle.rls_value.specs.declared.value.Value.{Value}
 use Rattle.rls_statement.specs.declared.statement.Statement.{Statement}
 use Rattle.rls_codec.specs.CodecLaws.{both_false}
-use Rattle.rls_audit.specs.ValueCodecs.{row}
+use Rattle.rls_audit.specs.rls_audit_lines.specs.ValueCodecs.{row}
 use Rattle.rls_explain.specs.declared.outcome.{Reason.Reason, RowOutcome.RowOutcome}
 use Rattle.rls_explain.specs.rls_meaning.specs.rls_guard.specs.{declared.context.Ctx.Ctx, declared.effect.Effect.Effect}
 use Rattle.rls_check.specs.ShownObjects.{data_before, reason_data, row_data, statement_data}

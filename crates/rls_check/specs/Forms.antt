@@ -4,10 +4,10 @@ use Rattle.std.specs.Ordering.{nat_cmp}
 use Rattle.std.specs.BTreeSet.{BTreeSet, btree_set_len, contains, insert_key}
 use Rattle.rls_value.specs.declared.refusal.Refusal.{Refusal}
 use Rattle.rls_value.specs.declared.refusal.Refusal.TheVariants as r
-use Rattle.rls_audit.specs.declared.lines.Shown.{Shown}
-use Rattle.rls_audit.specs.declared.lines.Line.{Line}
-use Rattle.rls_audit.specs.declared.lines.Line.TheVariants.{Head, Txn, End}
-use Rattle.rls_audit.specs.Reading.{MeansLine, line_found, line_text}
+use Rattle.rls_audit.specs.rls_audit_lines.specs.declared.lines.Shown.{Shown}
+use Rattle.rls_audit.specs.rls_audit_lines.specs.declared.lines.Line.{Line}
+use Rattle.rls_audit.specs.rls_audit_lines.specs.declared.lines.Line.TheVariants.{Head, Txn, End}
+use Rattle.rls_audit.specs.rls_audit_lines.specs.Reading.{MeansLine, line_found, line_text}
 use Rattle.rls_check.specs.declared.form.Stage.{Stage}
 use Rattle.rls_check.specs.declared.form.Stage.TheVariants as stage
 use Rattle.rls_check.specs.declared.form.Form.{Form}

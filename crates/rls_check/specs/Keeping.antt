@@ -11,14 +11,14 @@ use Rattle.rls_explain.specs.rls_meaning.specs.rls_guard.specs.Effects.{changes_
 use Rattle.rls_audit.specs.rls_core.specs.Records.{Record}
 use Rattle.rls_audit.specs.Lines.{Content, content_of}
 use Rattle.rls_audit.specs.Lines as lines
-use Rattle.rls_audit.specs.rls_text.specs.{ParseResults.IsSpelled, Words.words_of}
-use Rattle.rls_audit.specs.declared.contents.TableShape.{TableShape}
-use Rattle.rls_audit.specs.declared.changes.Changed.{Changed}
-use Rattle.rls_audit.specs.declared.changes.Changed.TheVariants as c
-use Rattle.rls_audit.specs.declared.lines.Answered.{Answered}
-use Rattle.rls_audit.specs.declared.lines.Shown.{Shown}
-use Rattle.rls_audit.specs.declared.lines.Line.{Line}
-use Rattle.rls_audit.specs.declared.lines.Line.TheVariants.{Head, Txn, End}
+use Rattle.rls_audit.specs.rls_audit_lines.specs.rls_text.specs.{ParseResults.IsSpelled, Words.words_of}
+use Rattle.rls_audit.specs.rls_audit_lines.specs.declared.contents.TableShape.{TableShape}
+use Rattle.rls_audit.specs.rls_audit_lines.specs.declared.changes.Changed.{Changed}
+use Rattle.rls_audit.specs.rls_audit_lines.specs.declared.changes.Changed.TheVariants as c
+use Rattle.rls_audit.specs.rls_audit_lines.specs.declared.lines.Answered.{Answered}
+use Rattle.rls_audit.specs.rls_audit_lines.specs.declared.lines.Shown.{Shown}
+use Rattle.rls_audit.specs.rls_audit_lines.specs.declared.lines.Line.{Line}
+use Rattle.rls_audit.specs.rls_audit_lines.specs.declared.lines.Line.TheVariants.{Head, Txn, End}
 use Rattle.rls_audit.specs.Shows.{NamesColumn, SpellsPolicy, ShowsAnswered}
 use Rattle.rls_audit.specs.FirstKeys.{place_of}
 use Rattle.rls_check.specs.declared.transaction.Answer.{Answer}

@@ -9,14 +9,14 @@ use Rattle.rls_statement.specs.{Commands.statement_of, declared.statement.Statem
 use Rattle.rls_statement.specs.declared.statement.Statement.TheVariants as st
 use Rattle.rls_audit.specs.rls_access.specs.Transactions.{Begin}
 use Rattle.rls_explain.specs.rls_meaning.specs.rls_guard.specs.{declared.context.Mode.Mode, declared.reply.Reply.Reply, declared.reply.Decision.Decision}
-use Rattle.rls_audit.specs.rls_text.specs.{ParseResults.IsSpelled, Words.words_of}
-use Rattle.rls_audit.specs.rls_text.proofs.{CommandLaws.one_command, Laws.one_statement}
-use Rattle.rls_audit.specs.{Asked.IsAsked, Reading.HasStatement, Reading.HasPolicies, Reading.IsPolicyText}
+use Rattle.rls_audit.specs.rls_audit_lines.specs.rls_text.specs.{ParseResults.IsSpelled, Words.words_of}
+use Rattle.rls_audit.specs.rls_audit_lines.specs.rls_text.proofs.{CommandLaws.one_command, Laws.one_statement}
+use Rattle.rls_audit.specs.rls_audit_lines.specs.{Asked.IsAsked, Reading.HasStatement, Reading.HasPolicies, Reading.IsPolicyText}
 use Rattle.rls_audit.specs.Shows.{SpellsPolicy}
-use Rattle.rls_audit.specs.declared.changes.Changed.{Changed}
-use Rattle.rls_audit.specs.declared.changes.Changed.TheVariants as c
-use Rattle.rls_audit.specs.declared.lines.Answered.{Answered}
-use Rattle.rls_audit.specs.declared.lines.Shown.{Shown}
+use Rattle.rls_audit.specs.rls_audit_lines.specs.declared.changes.Changed.{Changed}
+use Rattle.rls_audit.specs.rls_audit_lines.specs.declared.changes.Changed.TheVariants as c
+use Rattle.rls_audit.specs.rls_audit_lines.specs.declared.lines.Answered.{Answered}
+use Rattle.rls_audit.specs.rls_audit_lines.specs.declared.lines.Shown.{Shown}
 use Rattle.rls_check.specs.declared.transaction.Answer.{Answer}
 use Rattle.rls_check.specs.declared.transaction.Put.{Put}
 use Rattle.rls_check.specs.declared.transaction.Put.TheVariants as put

@@ -12,6 +12,7 @@ pub mod ShownRows
 pub mod ShownObjects
 pub mod ShownTexts
 pub mod ShownAudits
+pub mod Listing
 pub mod Forms
 pub mod Keeping
 pub mod KeepingLaws

@@ -5,7 +5,8 @@ use Rattle.serde_json.specs.View.{items_of}
 use Rattle.serde_json.specs.Written.{compact_text}
 use Rattle.rls_value.specs.{declared.value.Value.Value, Objects.row_id_text}
 use Rattle.rls_statement.specs.{declared.statement.Statement.Statement, Tags.tag_of}
-use Rattle.rls_audit.specs.{Printed.printed_text, ValueCodecs.row}
+use Rattle.rls_audit.specs.{Printed.printed_text}
+use Rattle.rls_audit.specs.rls_audit_lines.specs.ValueCodecs.{row}
 use Rattle.rls_explain.specs.declared.outcome.{Reason.Reason, RowOutcome.RowOutcome}
 use Rattle.rls_explain.specs.rls_meaning.specs.rls_guard.specs.{declared.context.Ctx.Ctx, declared.effect.Effect.Effect}
 use Rattle.rls_check.specs.ShownRows.{reason_text, row_word}

@@ -5,10 +5,10 @@ use Rattle.std.proofs.Common.{sym, ◌∙◌, subst}
 use Rattle.std.proofs.Math.Logic.{∥∥₁_elim}
 use mathlib.Core.HLevel.{Σ_prop_path}
 use mathlib.Core.Logic.{∥∥₁_prop}
-use Rattle.rls_audit.specs.declared.lines.Shown.{Shown}
-use Rattle.rls_audit.specs.declared.lines.Line.{Line}
-use Rattle.rls_audit.specs.declared.lines.Line.TheVariants.{Txn}
-use Rattle.rls_audit.specs.Reading.{MeansLine}
+use Rattle.rls_audit.specs.rls_audit_lines.specs.declared.lines.Shown.{Shown}
+use Rattle.rls_audit.specs.rls_audit_lines.specs.declared.lines.Line.{Line}
+use Rattle.rls_audit.specs.rls_audit_lines.specs.declared.lines.Line.TheVariants.{Txn}
+use Rattle.rls_audit.specs.rls_audit_lines.specs.Reading.{MeansLine}
 use Rattle.rls_check.specs.declared.transaction.Transaction.{Transaction}
 use Rattle.rls_check.specs.contracts.transaction.Transaction as transaction
 use Rattle.rls_check.specs.Keeping.{Keeps}

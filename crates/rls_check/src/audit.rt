@@ -3,7 +3,7 @@
 ghost use Rattle.std.specs.Prelude.{◌≡◌, ◌⊎◌, ◌+◌, ◌++◌, ◌∷◌, [], ℕ, List, length, nat_eq, IsUtf8, IfOk, IfErr};
 ghost use Rattle.std.specs.List.{list_any};
 ghost use Rattle.rls_value.specs.declared.refusal.Refusal.TheVariants as r;
-ghost use Rattle.rls_audit.specs.Reading.{MeansLine};
+ghost use Rattle.rls_audit.specs.rls_audit_lines.specs.Reading.{MeansLine};
 ghost use Rattle.rls_check.specs.Forms.{IsNext, IsBehind, IsUnread, IsTakenAmong, IsEnded};
 ghost use Rattle.rls_check.specs.Keeping.{IsMade};
 ghost use Rattle.rls_check.specs.ShownAudits.{missing_txn};

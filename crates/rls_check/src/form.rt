@@ -1,8 +1,8 @@
 //! The form of an audit across its lines: which line may stand next.
 
 ghost use Rattle.std.specs.Prelude.{◌≡◌, ◌+◌, false, OnOk, IsUtf8};
-ghost use Rattle.rls_audit.specs.Reading.{MeansLine, TellsWhether, IsLineRead};
-ghost use Rattle.rls_audit.specs.declared.lines.Line.TheVariants.{Head};
+ghost use Rattle.rls_audit.specs.rls_audit_lines.specs.Reading.{MeansLine, TellsWhether, IsLineRead};
+ghost use Rattle.rls_audit.specs.rls_audit_lines.specs.declared.lines.Line.TheVariants.{Head};
 ghost use Rattle.rls_check.specs.Forms as spec;
 ghost use Rattle.rls_check.specs.Forms.{FollowsAll, Follows, IsNext, IsBehind, IsUnread, HeadOf, FollowerOf, IsFoundAmong, IsTakenAmong, IsEnded, used_behind};
 

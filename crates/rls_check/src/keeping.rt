@@ -3,8 +3,8 @@
 ghost use Rattle.std.specs.Prelude.{◌≡◌, map, IfOk};
 ghost use Rattle.std.specs.List.{All, AllZip};
 ghost use Rattle.rls_statement.specs.declared.statement.Statement.{Statement};
-ghost use Rattle.rls_audit.specs.rls_text.specs.{ParseResults.IsSpelled, Words.words_of};
-ghost use Rattle.rls_audit.specs.{Asked.IsAsked, Reading.HasStatement, Reading.HasPolicies, Reading.IsStatementText, Reading.IsPolicyText};
+ghost use Rattle.rls_audit.specs.rls_audit_lines.specs.rls_text.specs.{ParseResults.IsSpelled, Words.words_of};
+ghost use Rattle.rls_audit.specs.rls_audit_lines.specs.{Asked.IsAsked, Reading.HasStatement, Reading.HasPolicies, Reading.IsStatementText, Reading.IsPolicyText};
 ghost use Rattle.rls_audit.specs.Shows.{SpellsPolicy};
 ghost use Rattle.rls_audit.specs.FirstKeys.{place_of as spec_place_of};
 ghost use Rattle.rls_check.specs.Keeping as spec;

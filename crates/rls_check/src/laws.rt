@@ -4,9 +4,9 @@ ghost use Rattle.std.specs.Prelude.{◌≡◌, ◌<◌, ℕ, Bool, List, IsUtf8}
 ghost use Rattle.std.specs.List.{All, AllZip};
 ghost use Rattle.rls_expr.specs.declared.table.TableDef.{TableDef};
 ghost use Rattle.rls_audit.specs.{Audits.AuditHolds, Showing.CanShow, Showing.HasKey, Shows.Means, Shows.ShowsLine};
-ghost use Rattle.rls_audit.specs.declared.changes.Changed.TheVariants as changed;
-ghost use Rattle.rls_audit.specs.declared.contents.TableShape.{TableShape};
-ghost use Rattle.rls_audit.specs.declared.lines.Shown.{Shown};
+ghost use Rattle.rls_audit.specs.rls_audit_lines.specs.declared.changes.Changed.TheVariants as changed;
+ghost use Rattle.rls_audit.specs.rls_audit_lines.specs.declared.contents.TableShape.{TableShape};
+ghost use Rattle.rls_audit.specs.rls_audit_lines.specs.declared.lines.Shown.{Shown};
 ghost use Rattle.rls_audit.specs.Lines as shown;
 ghost use Rattle.rls_check.specs.Audited.{lines_of};
 ghost use Rattle.rls_check.specs.Checking.{IsFirst};

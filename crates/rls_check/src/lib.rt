@@ -11,6 +11,7 @@ mod finding;
 mod form;
 mod keeping;
 mod laws;
+mod listing;
 mod matching;
 mod ordering;
 mod running;
@@ -31,6 +32,7 @@ pub use finding::Finding;
 pub use laws::{
     conversions_are_same, lines_are_shown, meant_lines_are_read, read_texts_begin_audits,
 };
+pub use listing::{Listed, Listing, numbers_stand_out};
 pub use rls_agreement;
 pub use rls_audit;
 pub use rls_explain::{rls_guard, rls_meaning};

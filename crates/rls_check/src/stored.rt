@@ -34,8 +34,8 @@ impl Model for Stored {
 
 impl Stored {
     ghost use Rattle.std.specs.Prelude.{◌≡◌, IfOk, IsUtf8};
-    ghost use Rattle.rls_audit.specs.Reading.{MeansLine};
-    ghost use Rattle.rls_audit.specs.declared.lines.Line.TheVariants.{Txn};
+    ghost use Rattle.rls_audit.specs.rls_audit_lines.specs.Reading.{MeansLine};
+    ghost use Rattle.rls_audit.specs.rls_audit_lines.specs.declared.lines.Line.TheVariants.{Txn};
     ghost use Rattle.rls_check.specs.Keeping.{Keeps};
 
     /// The transaction that the text shows, which was read as such a line of the format.

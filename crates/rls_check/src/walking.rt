@@ -7,8 +7,8 @@ ghost use Rattle.rls_audit.specs.rls_access.specs.Statements.{role_after};
 ghost use Rattle.rls_audit.specs.rls_access.specs.Transactions.{ctx_after as context_after};
 ghost use Rattle.rls_audit.specs.rls_core.specs.Theory.{read_by};
 ghost use Rattle.rls_explain.specs.rls_meaning.specs.Meaning.{effect_of};
-ghost use Rattle.rls_check.specs.Checking.{ctx_of, IsPlaced};
-ghost use Rattle.rls_check.specs.Walking.{IsNext, IsWalk, left, left_alone, state_left, state_to_come};
+ghost use Rattle.rls_check.specs.Checking.{ctx_of, state_behind, IsPlaced};
+ghost use Rattle.rls_check.specs.Walking.{IsNext, IsWalk, left, left_alone, standings_alone, state_left, state_to_come};
 
 use crate::alone::{ctx_after, first_ctx, state_after};
 use crate::audit::Audit;
@@ -223,7 +223,58 @@ impl Running {
         }
     }
 
-    fn has_next(&self) -> bool
+    /// The transaction at the place begins in the state.
+    pub(crate) fn of(
+        place: usize,
+        transaction: Transaction,
+        state: &State,
+    ) -> Result<Running, AllocError>
+        ensures left { IfOk result (λ it. left_alone it ≡ standings_alone place 1 (ctx_of transaction) state.now transaction.answers) }
+        ensures end { IfOk result (λ it. state_to_come it ≡ state_behind transaction state.now) }
+    {
+        let ctx = first_ctx(transaction.txn, &transaction.begin)?;
+        let Transaction {
+            txn: _,
+            begin,
+            snap: _,
+            answers,
+            puts,
+        } = transaction;
+        drop(begin);
+        drop(puts);
+        match state.copy() {
+            Ok(state) => Ok(Running {
+                place,
+                answers,
+                given: 0,
+                state,
+                ctx,
+            }),
+            Err(refused) => {
+                drop(answers);
+                drop(ctx);
+                Err(refused)
+            }
+        }
+    }
+
+    /// The state that it has come to.
+    pub(crate) fn into_state(self) -> State
+        ensures { result ≡ self.state }
+    {
+        let Running {
+            place: _,
+            answers,
+            given: _,
+            state,
+            ctx,
+        } = self;
+        drop(answers);
+        drop(ctx);
+        state
+    }
+
+    pub(crate) fn has_next(&self) -> bool
         ensures yes { result ≡ true → self.now.given < length self.now.answers }
         ensures no { result ≡ false → length self.now.answers ≤ self.now.given }
     {
@@ -258,7 +309,7 @@ impl Running {
 
     /// The next statement.
     #[tactic(auto, using(crate::proofs::WalkingLemmas::next_alone, crate::proofs::WalkingLemmas::same_to_come))]
-    fn next(&mut self, alloc: Global) -> Result<Turn, AllocError>
+    pub(crate) fn next(&mut self, alloc: Global) -> Result<Turn, AllocError>
         requires { self.old.given < length self.old.answers }
         ensures turn { IfOk result (λ turn. IsNext (left_alone self.old) turn (left_alone self.new)) }
         ensures end { OnOk result (state_to_come self.new ≡ state_to_come self.old) }

@@ -13,7 +13,7 @@ use Rattle.rls_command_line.specs.declared.words.ScriptFile.{ScriptFile}
 use Rattle.rls_command_line.specs.declared.words.Checks.{Checks}
 use Rattle.rls_command_line.specs.declared.words.Explain.{Explain}
 use Rattle.rls_command_line.specs.declared.words.Shown.{Shown}
-use Rattle.rls_command_line.specs.declared.words.Lint.{Lint}
+use Rattle.rls_command_line.specs.declared.words.AuditState.{AuditState}
 use Rattle.rls_command_line.specs.declared.words.Tests.{Tests}
 use Rattle.rls_command_line.specs.declared.words.Wanted.{Wanted}
 use Rattle.rls_command_line.specs.declared.command_line.Mistake.{Mistake}
@@ -46,6 +46,10 @@ hints_flag = record (new_rule (codes "hints")) { long = Some (codes "hints"); ac
 abbrev pub stop_flag : Rule
 stop_flag = record (new_rule (codes "stop")) { long = Some (codes "stop"); action = Some SetTrue }
 
+-- --numbers
+abbrev pub numbers_flag : Rule
+numbers_flag = record (new_rule (codes "numbers")) { long = Some (codes "numbers"); action = Some SetTrue }
+
 -- --after TXN
 abbrev pub after_option : Rule
 after_option = record (new_rule (codes "after")) { long = Some (codes "after"); value_names = 1 }
@@ -68,13 +72,17 @@ quiet_flag = record (new_rule (codes "quiet")) { long = Some (codes "quiet"); ac
 
 -- the name, and its words
 abbrev pub run_line : App
-run_line = with_rule (with_rule (with_rule (with_rule (with_rule (with_rule (new_app (codes "run")) (needed (codes "FILE"))) threads_flag) audit_option) terse_flag) hints_flag) stop_flag
+run_line = with_rule (with_rule (with_rule (with_rule (with_rule (with_rule (with_rule (new_app (codes "run")) (needed (codes "FILE"))) threads_flag) audit_option) terse_flag) hints_flag) stop_flag) numbers_flag
 
 abbrev pub test_line : App
 test_line = with_rule (with_rule (new_app (codes "test")) transcripts_argument) write_flag
 
+-- --long
+abbrev pub long_flag : Rule
+long_flag = record (new_rule (codes "long")) { long = Some (codes "long"); action = Some SetTrue }
+
 abbrev pub order_line : App
-order_line = with_rule (new_app (codes "order")) (needed (codes "AUDIT"))
+order_line = with_rule (with_rule (new_app (codes "order")) (needed (codes "AUDIT"))) long_flag
 
 abbrev pub check_line : App
 check_line = with_rule (with_rule (new_app (codes "check")) audits_argument) quiet_flag
@@ -104,6 +112,9 @@ shown_line = with_rule (with_rule (with_rule (with_rule (with_rule (with_rule (w
 abbrev pub lint_line : App
 lint_line = with_rule (with_rule (new_app (codes "lint")) (needed (codes "AUDIT"))) after_option
 
+abbrev pub dump_line : App
+dump_line = with_rule (with_rule (new_app (codes "dump")) (needed (codes "AUDIT"))) after_option
+
 abbrev pub migrate_line : App
 migrate_line = with_rule (with_rule (new_app (codes "migrate")) (needed (codes "AUDIT"))) (needed (codes "OUT"))
 
@@ -115,7 +126,7 @@ abbrev pub program_line : App
 program_line = on_top (λ (s : Shape). record s { has_version = true; subcommand_required = true }) (new_app (codes "rlsdb"))
 
 abbrev pub command_line : App
-command_line = with_subcommand (with_subcommand (with_subcommand (with_subcommand (with_subcommand (with_subcommand (with_subcommand (with_subcommand (with_subcommand program_line run_line.top) test_line.top) order_line.top) check_line.top) explain_line.top) shown_line.top) lint_line.top) migrate_line.top) parse_line.top
+command_line = with_subcommand (with_subcommand (with_subcommand (with_subcommand (with_subcommand (with_subcommand (with_subcommand (with_subcommand (with_subcommand (with_subcommand program_line run_line.top) test_line.top) order_line.top) check_line.top) explain_line.top) shown_line.top) lint_line.top) dump_line.top) migrate_line.top) parse_line.top
 
 -- ---- what words ask for
 
@@ -193,20 +204,23 @@ IsAfter rows (Some txn) = IsNumber (codes "after") rows txn
 IsAfter rows None = first_of (codes "after") rows ≡ None
 
 -- an audit, and perhaps a transaction
-pub record IsLint (rows : List Row) (it : Lint) : Type 0 where
+pub record IsAuditState (rows : List Row) (it : AuditState) : Type 0 where
   pub audit : first_of (codes "AUDIT") rows ≡ Some it.audit.now
   pub after : IsAfter rows it.after
 
 -- the command of that name, with these words, asks for it
 abbrev pub AsksFor : Text → List Row → Request → Type 0
-AsksFor name rows (q.Run it) = (name ≡ codes "run") × IsRun rows it × IsFlag (codes "stop") rows false
-AsksFor name rows (q.RunStopping it) = (name ≡ codes "run") × IsRun rows it × IsFlag (codes "stop") rows true
+AsksFor name rows (q.Run it) = (name ≡ codes "run") × IsRun rows it × IsFlag (codes "stop") rows false × IsFlag (codes "numbers") rows false
+AsksFor name rows (q.RunStopping it) = (name ≡ codes "run") × IsRun rows it × IsFlag (codes "stop") rows true × IsFlag (codes "numbers") rows false
+AsksFor name rows (q.RunNumbered it) = (name ≡ codes "run") × IsRun rows it × IsFlag (codes "stop") rows false × IsFlag (codes "numbers") rows true
 AsksFor name rows (q.Test it) = (name ≡ codes "test") × IsTest rows it
-AsksFor name rows (q.Order audit) = (name ≡ codes "order") × (first_of (codes "AUDIT") rows ≡ Some audit.now)
+AsksFor name rows (q.Order audit) = (name ≡ codes "order") × (first_of (codes "AUDIT") rows ≡ Some audit.now) × IsFlag (codes "long") rows false
+AsksFor name rows (q.OrderLong audit) = (name ≡ codes "order") × (first_of (codes "AUDIT") rows ≡ Some audit.now) × IsFlag (codes "long") rows true
 AsksFor name rows (q.Check it) = (name ≡ codes "check") × IsChecks rows it
 AsksFor name rows (q.Explain it) = (name ≡ codes "explain") × IsExplain rows it
 AsksFor name rows (q.Shown it) = (name ≡ codes "shown") × IsShownLine rows it
-AsksFor name rows (q.Lint it) = (name ≡ codes "lint") × IsLint rows it
+AsksFor name rows (q.Lint it) = (name ≡ codes "lint") × IsAuditState rows it
+AsksFor name rows (q.Dump it) = (name ≡ codes "dump") × IsAuditState rows it
 AsksFor name rows (q.Parse file) = (name ≡ codes "parse") × (first_of (codes "FILE") rows ≡ Some file.now)
 AsksFor name rows (q.Migrate audit out) = (name ≡ codes "migrate") × (first_of (codes "AUDIT") rows ≡ Some audit.now) × (first_of (codes "OUT") rows ≡ Some out.now)
 

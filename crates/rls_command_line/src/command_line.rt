@@ -4,8 +4,9 @@ ghost use Rattle.std.specs.Prelude.{◌≡◌, false, map, codes, Some, option_m
 ghost use Rattle.clap.specs.Words.{app_of, first_of, found_of, new_app, new_rule, rows_of, rule_of};
 ghost use Rattle.clap.specs.declared.builder.command.Command.TheViews.{out-Command};
 ghost use Rattle.rls_command_line.specs.declared.command_line.Mistake.TheVariants.{Words};
-ghost use Rattle.rls_command_line.specs.CommandLine.{Asks, AsksFor, IsFlag, IsMistaken, IsNumber, IsOfMemory, IsOwn, IsRow, audit_option, audits_argument, check_line, command_line, explain_line, migrate_line, needed, hints_flag, order_line, parse_line, program_line, quiet_flag, run_line, stop_flag, terse_flag, test_line, threads_flag, transcripts_argument, write_flag};
+ghost use Rattle.rls_command_line.specs.CommandLine.{Asks, AsksFor, IsFlag, IsMistaken, IsNumber, IsOfMemory, IsOwn, IsRow, audit_option, audits_argument, check_line, command_line, explain_line, long_flag, migrate_line, needed, numbers_flag, hints_flag, order_line, parse_line, program_line, quiet_flag, run_line, stop_flag, terse_flag, test_line, threads_flag, transcripts_argument, write_flag};
 
+use crate::dump_line::{dump_command, dump_of};
 use crate::lint_line::{lint_command, lint_of};
 use crate::shown_line::{shown_command, shown_of};
 use crate::words::{Checks, Explain, Request, ScriptFile, Tests, number_of, row_of};
@@ -24,13 +25,15 @@ Examples:
     rlsdb explain AUDIT 16 1 10.2
     rlsdb shown AUDIT --role ann
     rlsdb lint AUDIT
+    rlsdb dump AUDIT --after 12
 
 Exit status:
     0  done, even if statements were refused
     1  a file cannot be read or written, or memory ran out
     2  usage
     3  `check` says no, a test fails, an ERROR ends `run --stop`, a line of an audit is bad, there is no such decision, `shown`
-       finds a fault, `lint` finds a mistake or a fault, or `parse` finds a line that is no statement";
+       or `order --long` finds a fault, `lint` finds a mistake or a fault, `dump` finds a fault or no script, or `parse` finds a
+       line that is no statement";
 
 const AFTER_RUN: &str = "\
 Each line of FILE is a command: `LABEL: \\connect ROLE` or `LABEL: STATEMENT`. The superuser `postgres` exists from the start:
@@ -42,6 +45,9 @@ Each line of FILE is a command: `LABEL: \\connect ROLE` or `LABEL: STATEMENT`. T
 A label is 1 to 63 lower case letters, digits or underscores. Each label has its own session; there may be up to 64.
 Empty lines and lines that begin with `--` are skipped. Each answer is written as `LABEL: TEXT`.
 With --threads each label runs its lines on its own thread up to the next line `==`. Answers are then written label by label.
+With --numbers each line of an answer stands behind a mark and a tab: the number of the line in FILE, and where it was answered:
+`-` in no transaction, `T` transaction T began, `T.S` in statement S of T, `rows T.N` it inserted these rows, `commit C` T is commit
+C, `T over` T ended without a commit. The answers are written once the run has ended.
 
 Example: rlsdb run FILE --threads --audit AUDIT";
 
@@ -60,9 +66,10 @@ With --write the answers that came are put into each FILE; the status is that of
 Example: rlsdb test notes.transcript";
 
 const AFTER_ORDER: &str = "\
-Writes the numbers of the transactions of AUDIT in serial order, one for each line.
+Writes the numbers of the transactions of AUDIT in serial order, one for each line. With --long each has below it, indented, its
+commit, its login, its role, and its statements with what they come to where the transactions run again in that order.
 
-Example: rlsdb order AUDIT";
+Example: rlsdb order AUDIT --long";
 
 const AFTER_CHECK: &str = "\
 Writes `yes`, or the first fault that it finds: `no: order`, `no: reply T.S` (transaction T, statement S), `no: changes T` or
@@ -150,11 +157,12 @@ fn request_in<'a>(
     match name {
         "run" => run_of(words),
         "test" => test_of(alloc, words),
-        "order" => Ok(Request::Order(value(words, "AUDIT")?)),
+        "order" => order_of(words),
         "check" => check_of(alloc, words),
         "explain" => explain_of(words),
         "shown" => shown_of(alloc, words),
         "lint" => lint_of(words),
+        "dump" => dump_of(words),
         "migrate" => migrate_of(words),
         "parse" => Ok(Request::Parse(value(words, "FILE")?)),
         _ => Err(Mistake::Nothing),
@@ -172,10 +180,13 @@ fn run_of<'a>(words: &ArgMatches<'a>) -> Result<Request<'a>, Mistake<'a>>
         terse: flag(words, "terse-conflicts"),
         hints: flag(words, "hints"),
     };
-    match flag(words, "stop") {
-        false => Ok(Request::Run(run)),
-        true if run.threads => Err(Mistake::Together("--stop", "--threads")),
-        true => Ok(Request::RunStopping(run)),
+    match (flag(words, "stop"), flag(words, "numbers")) {
+        (false, false) => Ok(Request::Run(run)),
+        (true, _) if run.threads => Err(Mistake::Together("--stop", "--threads")),
+        (true, false) => Ok(Request::RunStopping(run)),
+        (false, true) if run.threads => Err(Mistake::Together("--numbers", "--threads")),
+        (false, true) => Ok(Request::RunNumbered(run)),
+        (true, true) => Err(Mistake::Together("--numbers", "--stop")),
     }
 }
 
@@ -194,6 +205,18 @@ fn test_of<'a>(alloc: Global, words: &ArgMatches<'a>) -> Result<Request<'a>, Mis
     match names.to_vec(alloc) {
         Ok(files) => Ok(Request::Test(Tests { files, write })),
         Err(error) => Err(Mistake::from(error)),
+    }
+}
+
+fn order_of<'a>(words: &ArgMatches<'a>) -> Result<Request<'a>, Mistake<'a>>
+    ensures ok { IfOk result (AsksFor (codes "order") (rows_of (found_of words.now))) }
+    ensures err { IfErr result IsOwn }
+{
+    let audit = value(words, "AUDIT")?;
+    if flag(words, "long") {
+        Ok(Request::OrderLong(audit))
+    } else {
+        Ok(Request::Order(audit))
     }
 }
 
@@ -294,6 +317,7 @@ fn command<'a>(alloc: Global) -> Result<Command<'a>, AllocError>
     let program = program.subcommand(explain_command(alloc)?)?;
     let program = program.subcommand(shown_command(alloc)?)?;
     let program = program.subcommand(lint_command(alloc)?)?;
+    let program = program.subcommand(dump_command(alloc)?)?;
     let program = program.subcommand(migrate_command(alloc)?)?;
     let program = program.subcommand(parse_command(alloc)?)?;
     Ok(program)
@@ -341,7 +365,20 @@ fn run_command<'a>(alloc: Global) -> Result<Command<'a>, AllocError>
     let command = command.arg(terse_conflicts(alloc))?;
     let command = command.arg(hints(alloc))?;
     let command = command.arg(stop(alloc))?;
+    let command = command.arg(numbers(alloc))?;
     Ok(command)
+}
+
+fn numbers<'a>(alloc: Global) -> Arg<'a>
+    ensures rule { rule_of result ≡ numbers_flag }
+    ensures local { result.global ≡ false }
+{
+    Arg::new(alloc, "numbers")
+        .long("numbers")
+        .action(ArgAction::SetTrue)
+        .help(
+            "Put the line, the transaction, the statement, the rows and the commit before each answer",
+        )
 }
 
 fn stop<'a>(alloc: Global) -> Arg<'a>
@@ -443,7 +480,18 @@ fn order_command<'a>(alloc: Global) -> Result<Command<'a>, AllocError>
     let about = "Writes the serial order of an audit";
     let command = named(alloc, "order", about, AFTER_ORDER);
     let command = command.arg(audit(alloc))?;
+    let command = command.arg(long(alloc))?;
     Ok(command)
+}
+
+fn long<'a>(alloc: Global) -> Arg<'a>
+    ensures rule { rule_of result ≡ long_flag }
+    ensures local { result.global ≡ false }
+{
+    Arg::new(alloc, "long")
+        .long("long")
+        .action(ArgAction::SetTrue)
+        .help("Write below each number who committed what, and what it was answered")
 }
 
 fn check_command<'a>(alloc: Global) -> Result<Command<'a>, AllocError>

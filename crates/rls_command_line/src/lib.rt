@@ -2,11 +2,13 @@
 #![tactic(auto)]
 
 mod command_line;
+mod dump_line;
 mod lint_line;
 mod shown_line;
 mod words;
 
 pub use command_line::{Mistake, request_of};
 pub use words::{
-    Checks, Explain, Lint, Request, ScriptFile, Shown, Tests, Wanted, is_output, is_output_wanted,
+    AuditState, Checks, Explain, Request, ScriptFile, Shown, Tests, Wanted, is_output,
+    is_output_wanted,
 };

@@ -6,7 +6,7 @@ ghost use Rattle.clap.specs.declared.builder.command.Command.TheViews.{out-Comma
 ghost use Rattle.rls_command_line.specs.CommandLine.{AsksFor, IsAfter, IsOwn, after_option, lint_line};
 
 use crate::command_line::{Mistake, NUMBER, audit, given, named, value};
-use crate::words::{Lint, Request, number_of};
+use crate::words::{AuditState, Request, number_of};
 use clap::{Arg, ArgMatches, Command};
 use std::alloc::{AllocError, Global};
 
@@ -36,14 +36,14 @@ pub fn lint_of<'a>(words: &ArgMatches<'a>) -> Result<Request<'a>, Mistake<'a>>
     ensures ok { IfOk result (AsksFor (codes "lint") (rows_of (found_of words.now))) }
     ensures err { IfErr result IsOwn }
 {
-    Ok(Request::Lint(Lint {
+    Ok(Request::Lint(AuditState {
         audit: value(words, "AUDIT")?,
         after: after_of(words)?,
     }))
 }
 
 /// The number of the transaction, if it is given.
-fn after_of<'a>(words: &ArgMatches<'a>) -> Result<Option<u64>, Mistake<'a>>
+pub fn after_of<'a>(words: &ArgMatches<'a>) -> Result<Option<u64>, Mistake<'a>>
     ensures ok { IfOk result (IsAfter (rows_of (found_of words.now))) }
     ensures err { IfErr result IsOwn }
 {
@@ -67,12 +67,12 @@ pub fn lint_command<'a>(alloc: Global) -> Result<Command<'a>, AllocError>
     Ok(command)
 }
 
-fn after<'a>(alloc: Global) -> Arg<'a>
+pub fn after<'a>(alloc: Global) -> Arg<'a>
     ensures rule { rule_of result ≡ after_option }
     ensures local { result.global ≡ false }
 {
     Arg::new(alloc, "after")
         .long("after")
         .value_name("TXN")
-        .help("Look at the state behind this transaction, not at the end")
+        .help("Take the state behind this transaction, not the end")
 }

@@ -60,12 +60,12 @@ pub struct Wanted {
     pub json: bool,
 }
 
-/// An audit that is looked at for mistakes.
+/// A state of an audit.
 #[derive(Clone, Copy)]
-pub struct Lint<'a> {
+pub struct AuditState<'a> {
     /// Its file, or `-` for standard input.
     pub audit: &'a str,
-    /// The transaction behind which the state stands; none for the end.
+    /// The transaction behind which it stands; none for the end.
     pub after: Option<u64>,
 }
 
@@ -93,12 +93,17 @@ pub enum Request<'a> {
     Run(ScriptFile<'a>),
     /// The same, up to the first refusal.
     RunStopping(ScriptFile<'a>),
+    /// Each answer behind the transaction that its line was answered in.
+    RunNumbered(ScriptFile<'a>),
     Test(Tests<'a>),
     Order(&'a str),
+    /// The same, with who committed what.
+    OrderLong(&'a str),
     Check(Checks<'a>),
     Explain(Explain<'a>),
     Shown(Shown<'a>),
-    Lint(Lint<'a>),
+    Lint(AuditState<'a>),
+    Dump(AuditState<'a>),
     /// From the first file into the second, or, where that is `-`, to standard output.
     Migrate(&'a str, &'a str),
     /// What of this script isn't taken.

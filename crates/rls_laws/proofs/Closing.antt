@@ -1,14 +1,14 @@
 -- Phrases of the grammar close the parentheses that they open.
 use Rattle.std.specs.Prelude.{◌≡◌, refl, ℕ, zero, suc, ◌+◌, List, [], ◌∷◌, ◌++◌, Bool, false, Option, Some, None}
 use Rattle.std.proofs.Common.{arith, ap, ◌∙◌, inl, inr}
-use Rattle.rls_audit.specs.rls_text.specs.{declared.token.Token.Token, ParseResults.open_behind, Cut.Cut, Cutting.tree_of, FirstSets.expr_heads, FirstSets.expr_more, Lang.only, Lang.Both, Lang.Mapped, Lang.Either, Lang.Perhaps, Lang.Many, Lang.Checked, Lang.One, Lang.After, Lang.Before}
-use Rattle.rls_audit.specs.rls_text.specs.declared.token.Token.TheVariants.{Word, Number, Text}
-use Rattle.rls_audit.specs.rls_text.specs.declared.token.Symbol.TheVariants as s
-use Rattle.rls_audit.specs.rls_text.specs.declared.token.Token.TheVariants as t
-use Rattle.rls_audit.specs.rls_text.specs.Cut as cut
-use Rattle.rls_audit.specs.rls_text.specs.Rule as base
-use Rattle.rls_audit.specs.rls_text.specs.Values as v
-use Rattle.rls_audit.specs.rls_text.specs.Grammar as g
+use Rattle.rls_audit.specs.rls_audit_lines.specs.rls_text.specs.{declared.token.Token.Token, ParseResults.open_behind, Cut.Cut, Cutting.tree_of, FirstSets.expr_heads, FirstSets.expr_more, Lang.only, Lang.Both, Lang.Mapped, Lang.Either, Lang.Perhaps, Lang.Many, Lang.Checked, Lang.One, Lang.After, Lang.Before}
+use Rattle.rls_audit.specs.rls_audit_lines.specs.rls_text.specs.declared.token.Token.TheVariants.{Word, Number, Text}
+use Rattle.rls_audit.specs.rls_audit_lines.specs.rls_text.specs.declared.token.Symbol.TheVariants as s
+use Rattle.rls_audit.specs.rls_audit_lines.specs.rls_text.specs.declared.token.Token.TheVariants as t
+use Rattle.rls_audit.specs.rls_audit_lines.specs.rls_text.specs.Cut as cut
+use Rattle.rls_audit.specs.rls_audit_lines.specs.rls_text.specs.Rule as base
+use Rattle.rls_audit.specs.rls_audit_lines.specs.rls_text.specs.Values as v
+use Rattle.rls_audit.specs.rls_audit_lines.specs.rls_text.specs.Grammar as g
 
 -- how many parentheses are open behind the tokens
 abbrev pub open_after : ℕ → List Token → ℕ

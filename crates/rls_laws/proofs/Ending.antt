@@ -12,7 +12,8 @@ use Rattle.rls_meaning.specs.rls_guard.specs.{declared.context.Ctx.Ctx, declared
 use Rattle.rls_meaning.specs.rls_guard.specs.declared.context.Mode.TheVariants as mode
 use Rattle.rls_meaning.specs.rls_guard.specs.declared.effect.Effect.TheVariants as effect
 use Rattle.rls_audit.specs.rls_access.specs.Statements.{effect_in, mode_or_refused}
-use Rattle.rls_audit.specs.{RefusalCodecs.IsAudited, Showing.ArePoliciesSpellable, Showing.CanShow, Showing.CanTell, Showing.IsSpellable}
+use Rattle.rls_audit.specs.{Showing.ArePoliciesSpellable, Showing.CanShow, Showing.CanTell, Showing.IsSpellable}
+use Rattle.rls_audit.specs.rls_audit_lines.specs.RefusalCodecs.{IsAudited}
 use Rattle.rls_meaning.specs.Meaning.{StatementMeans, effect_of, meant_in}
 use Rattle.rls_meaning.specs.{Memberships.grant_roles_in, Memberships.revoke_roles_in, Privileges.grant_in, Privileges.revoke_in}
 use Rattle.rls_laws.specs.{InOrder.IsInOrder, Shown.KeysAreThere, Spelled.PoliciesAreTexts}

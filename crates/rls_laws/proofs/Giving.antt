@@ -7,7 +7,7 @@ use Rattle.rls_meaning.specs.rls_guard.specs.rls_catalog.specs.declared.change.C
 use Rattle.rls_meaning.specs.rls_guard.specs.rls_source.specs.{Named.found_or, Sequences.each_of, Sequences.each_or_refused}
 use Rattle.rls_meaning.specs.rls_guard.specs.{declared.effect.Effect.Effect, Effects.shown}
 use Rattle.rls_meaning.specs.rls_guard.specs.declared.effect.Effect.TheVariants as effect
-use Rattle.rls_audit.specs.RefusalCodecs.{IsAudited}
+use Rattle.rls_audit.specs.rls_audit_lines.specs.RefusalCodecs.{IsAudited}
 use Rattle.rls_meaning.specs.Naming.{provided}
 
 -- this holds of what is given, where something is

@@ -6,10 +6,10 @@ use Rattle.rls_value.specs.declared.refusal.Limit.{Limit}
 use Rattle.rls_expr.specs.{Terms.Term, Terms.maybe_term, declared.policy.Policy.Policy}
 use Rattle.rls_statement.specs.{declared.statement.AlterPolicy.AlterPolicy, declared.statement.CreatePolicy.CreatePolicy, declared.statement.Statement.Statement}
 use Rattle.rls_statement.specs.declared.statement.Statement.TheVariants as st
-use Rattle.rls_audit.specs.rls_text.specs.{declared.token.Token.Token, declared.token.Token.TheVariants.Word, ParseResults.IsSpelled, ParseResults.limit_at, ParseResults.limit_from, ParseResults.open_behind, ParseResults.or_next, Cut.Cut, Cutting.tree_of, FirstSets.expr_heads, FirstSets.expr_more, Heights.height_if, Heights.height_of, Nested.deepest_query, Nested.subqueries_of, Lang.only, Lang.Both, Lang.Mapped, Lang.Perhaps, Lang.Checked, Lang.After, Lang.Before}
-use Rattle.rls_audit.specs.rls_text.specs.Values as v
-use Rattle.rls_audit.specs.rls_text.specs.Grammar as g
-use Rattle.rls_audit.specs.rls_text.proofs.Laws.{Within, or_within, spelled_few, spelled_low}
+use Rattle.rls_audit.specs.rls_audit_lines.specs.rls_text.specs.{declared.token.Token.Token, declared.token.Token.TheVariants.Word, ParseResults.IsSpelled, ParseResults.limit_at, ParseResults.limit_from, ParseResults.open_behind, ParseResults.or_next, Cut.Cut, Cutting.tree_of, FirstSets.expr_heads, FirstSets.expr_more, Heights.height_if, Heights.height_of, Nested.deepest_query, Nested.subqueries_of, Lang.only, Lang.Both, Lang.Mapped, Lang.Perhaps, Lang.Checked, Lang.After, Lang.Before}
+use Rattle.rls_audit.specs.rls_audit_lines.specs.rls_text.specs.Values as v
+use Rattle.rls_audit.specs.rls_audit_lines.specs.rls_text.specs.Grammar as g
+use Rattle.rls_audit.specs.rls_audit_lines.specs.rls_text.proofs.Laws.{Within, or_within, spelled_few, spelled_low}
 use Rattle.rls_laws.proofs.Closing.{Closes, open_after, expr_closes, grantees_close, new_grantees_close, on_closes, options_close, using_closes, word_closes}
 
 -- ---- limits on words

@@ -2,8 +2,8 @@
 use Rattle.std.specs.Prelude.{◌≡◌, List, Some}
 use Rattle.rls_statement.specs.declared.command.Command.{Command}
 use Rattle.rls_statement.specs.declared.statement.Statement.{Statement}
-use Rattle.rls_audit.specs.rls_text.specs.{Commands.SpellsCommand, Grammar.Spells, declared.token.Token.Token}
-use Rattle.rls_audit.specs.rls_text.proofs.{Laws.one_statement, CommandLaws.one_command}
+use Rattle.rls_audit.specs.rls_audit_lines.specs.rls_text.specs.{Commands.SpellsCommand, Grammar.Spells, declared.token.Token.Token}
+use Rattle.rls_audit.specs.rls_audit_lines.specs.rls_text.proofs.{Laws.one_statement, CommandLaws.one_command}
 use Rattle.rls_audit.specs.rls_printing.specs.{OutputTokens.tokens_of, StatementForms.statement, CommandForms.command}
 use Rattle.rls_audit.specs.rls_printing.proofs.{Printed.tokens_spell, PrintedCommands.words_spell}
 

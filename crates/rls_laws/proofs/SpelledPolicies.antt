@@ -14,9 +14,9 @@ use Rattle.rls_statement.specs.{declared.statement.AlterPolicy.AlterPolicy, decl
 use Rattle.rls_statement.specs.declared.statement.Statement.TheVariants as st
 use Rattle.rls_meaning.specs.rls_ddl.specs.AlteringPolicies.{altered, has_no_place_for, with_altered}
 use Rattle.rls_meaning.specs.rls_ddl.proofs.PolicyOrderLaws.{altered_is_replaced}
-use Rattle.rls_audit.specs.rls_text.specs.declared.token.Token.{Token}
-use Rattle.rls_audit.specs.rls_text.specs.Grammar as g
-use Rattle.rls_audit.specs.rls_text.specs.Values.{may_have, or_public}
+use Rattle.rls_audit.specs.rls_audit_lines.specs.rls_text.specs.declared.token.Token.{Token}
+use Rattle.rls_audit.specs.rls_audit_lines.specs.rls_text.specs.Grammar as g
+use Rattle.rls_audit.specs.rls_audit_lines.specs.rls_text.specs.Values.{may_have, or_public}
 use Rattle.rls_audit.specs.Showing.{IsPolicySpellable, IsSpellable}
 use Rattle.rls_laws.proofs.PolicyTexts.{ChangeParts, Condition, Phrase, PolicyParts, altered_parts, created_parts, mapped_of, parts_spell}
 

@@ -9,7 +9,8 @@ ghost use Rattle.rls_meaning.specs.rls_guard.specs.{declared.context.Ctx.Ctx, de
 ghost use Rattle.rls_meaning.specs.rls_guard.specs.declared.effect.Effect.TheVariants as effect;
 ghost use Rattle.rls_audit.specs.rls_access.specs.Statements.{effect_in};
 ghost use Rattle.rls_audit.specs.rls_core.specs.Events.{Event, Rules, after};
-ghost use Rattle.rls_audit.specs.{Audits.AuditHolds, FirstKeys.KeysAreFirst, Lines.Line, RefusalCodecs.IsAudited, Showing.CanShow};
+ghost use Rattle.rls_audit.specs.{Audits.AuditHolds, FirstKeys.KeysAreFirst, Lines.Line, Showing.CanShow};
+ghost use Rattle.rls_audit.specs.rls_audit_lines.specs.RefusalCodecs.{IsAudited};
 ghost use Rattle.rls_laws.specs.Shown.{KeysAreThere};
 
 use rls_meaning::statement_means;

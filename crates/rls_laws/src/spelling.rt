@@ -3,7 +3,7 @@
 ghost use Rattle.std.specs.Prelude.{◌≡◌, List, Some};
 ghost use Rattle.rls_statement.specs.declared.command.Command.{Command};
 ghost use Rattle.rls_statement.specs.declared.statement.Statement.{Statement};
-ghost use Rattle.rls_audit.specs.rls_text.specs.{Commands.SpellsCommand, Grammar.Spells, declared.token.Token.Token};
+ghost use Rattle.rls_audit.specs.rls_audit_lines.specs.rls_text.specs.{Commands.SpellsCommand, Grammar.Spells, declared.token.Token.Token};
 ghost use Rattle.rls_audit.specs.rls_printing.specs.CommandForms as command_form;
 ghost use Rattle.rls_audit.specs.rls_printing.specs.OutputTokens.{tokens_of};
 ghost use Rattle.rls_audit.specs.rls_printing.specs.StatementForms as form;

@@ -1,5 +1,6 @@
 pub mod Alike
 pub mod Closing
+pub mod ContentsLemmas
 pub mod Following
 pub mod LawLemmas
 pub mod LintedLemmas

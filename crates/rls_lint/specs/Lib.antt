@@ -7,4 +7,5 @@ pub mod Nulls
 pub mod TableMistakes
 pub mod Findings
 pub mod Naming
+pub mod Contents
 pub mod Texts

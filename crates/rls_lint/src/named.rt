@@ -111,4 +111,15 @@ impl Named {
         }
         Ok(names)
     }
+
+    /// The names of the tables.
+    pub(crate) fn table_names(&self, alloc: Global) -> Result<Items<Name>, AllocError>
+        ensures { IfOk result (λ names. names ≡ map (λ entry. entry.0) self.now.tables) }
+    {
+        let mut names = Items::new(alloc);
+        for entry in self.tables.iter() {
+            names.push(entry.0.copy()?)?;
+        }
+        Ok(names)
+    }
 }

@@ -2,3 +2,4 @@ pub mod DifferenceLemmas
 pub mod MarkLemmas
 pub mod ReportLemmas
 pub mod TranscriptLemmas
+pub mod NumberLemmas

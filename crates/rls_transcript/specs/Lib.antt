@@ -3,3 +3,4 @@ pub mod Marks
 pub mod Transcripts
 pub mod Reports
 pub mod Memory
+pub mod Numbers

@@ -1,6 +1,7 @@
 //! What a line of a script is answered, apart from all other lines.
 
-ghost use Rattle.std.specs.Prelude.{◌≡◌, map, IfOk};
+ghost use Rattle.std.specs.Prelude.{◌≡◌, drop, map, take, IfOk};
+ghost use Rattle.rls_transcript.specs.Numbers.{code_in};
 ghost use Rattle.rls_transcript.specs.Told as spec;
 ghost use Rattle.rls_transcript.specs.Told.{behind_label, told_by, told_lines, untold};
 
@@ -54,6 +55,17 @@ impl Told {
         self.refused
     }
 
+    /// The code of the refusal that it tells; none otherwise.
+    pub fn code(&self) -> &[u8]
+        ensures { result.now ≡ code_in self.now }
+    {
+        if self.refused {
+            code_behind(without_label(self.text.as_slice()))
+        } else {
+            &[]
+        }
+    }
+
     /// The bytes that are written.
     pub fn text(&self) -> &[u8]
         ensures { result.now ≡ self.now.text }
@@ -84,6 +96,25 @@ fn is_refusal(lines: &[&[u8]]) -> bool
         [line] => is_error(line),
         _ => false,
     }
+}
+
+/// The five bytes behind ERROR and a space.
+fn code_behind(text: &[u8]) -> &[u8]
+    ensures { result.now ≡ take 5 (drop 6 text.now) }
+{
+    if text.len() <= 6 {
+        return &[];
+    }
+    first_five(&text[6..])
+}
+
+fn first_five(code: &[u8]) -> &[u8]
+    ensures { result.now ≡ take 5 code.now }
+{
+    if code.len() <= 5 {
+        return code;
+    }
+    &code[..5]
 }
 
 fn is_error(line: &[u8]) -> bool

@@ -3,10 +3,10 @@ use Rattle.std.proofs.Common.{◌≡◌, refl, ◌+◌, ◌<◌, ◌++◌, ◌�
 use Rattle.std.proofs.Math.Seq.{drop-cons}
 use Rattle.std.proofs.lemmas.List.Elements.{All-get_or}
 use Rattle.std.specs.List.{All, AllZip}
-use Rattle.rls_check.specs.rls_audit.specs.declared.lines.Line.{Line}
-use Rattle.rls_check.specs.rls_audit.specs.declared.lines.Line.TheVariants as line
+use Rattle.rls_check.specs.rls_audit.specs.rls_audit_lines.specs.declared.lines.Line.{Line}
+use Rattle.rls_check.specs.rls_audit.specs.rls_audit_lines.specs.declared.lines.Line.TheVariants as line
 use Rattle.rls_check.specs.rls_audit.specs.Lines as shown
-use Rattle.rls_check.specs.rls_audit.specs.Reading.{line_found, line_text}
+use Rattle.rls_check.specs.rls_audit.specs.rls_audit_lines.specs.Reading.{line_found, line_text}
 use Rattle.rls_check.specs.rls_audit.specs.Shows.{Means, ShowsLine}
 use Rattle.rls_check.specs.rls_audit.specs.Showing.{AreTexts}
 use Rattle.rls_check.specs.rls_audit.specs.rls_core.specs.{Events.World, Headline.AreExplained, Headline.HaveOrder, Seen.world_of}

@@ -1,7 +1,7 @@
 -- Which lines are none, by what a read of them says.
 use Rattle.std.proofs.Common.{◌≡◌, ℕ, Bool, true, false, List, Option, Some, None, inl, inr}
-use Rattle.rls_check.specs.rls_audit.specs.declared.lines.Line.{Line}
-use Rattle.rls_check.specs.rls_audit.specs.Reading.{MeansLine}
+use Rattle.rls_check.specs.rls_audit.specs.rls_audit_lines.specs.declared.lines.Line.{Line}
+use Rattle.rls_check.specs.rls_audit.specs.rls_audit_lines.specs.Reading.{MeansLine}
 use Rattle.rlsdb.specs.Flaws.{IsLineIn, SaysWhether, SaysWhetherLine}
 
 -- a bad line of the format is none

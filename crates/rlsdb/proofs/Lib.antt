@@ -3,9 +3,12 @@ pub mod AnswerLemmas
 pub mod BookLemmas
 pub mod CheckLemmas
 pub mod CommandLemmas
+pub mod DumpLemmas
 pub mod FlawLemmas
 pub mod LineLemmas
 pub mod LintLemmas
+pub mod ListingLemmas
+pub mod NumberLemmas
 pub mod ParsingLemmas
 pub mod ShownLemmas
 pub mod TestLemmas

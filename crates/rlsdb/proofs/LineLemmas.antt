@@ -3,8 +3,8 @@ use Rattle.std.proofs.Common.{◌≡◌, refl, ◌≢◌, ◌++◌, ◌∷◌, [
 use Rattle.std.proofs.lemmas.Grind.{common_steps}
 use Rattle.std.proofs.lemmas.List.Elements.{All-nil, All-cons, All-append}
 use Rattle.rlsdb.specs.declared.audit_file.NextLine.TheVariants as came
-use Rattle.rls_check.specs.rls_audit.specs.declared.lines.Line.{Line}
-use Rattle.rls_check.specs.rls_audit.specs.Reading.{line_found, line_text}
+use Rattle.rls_check.specs.rls_audit.specs.rls_audit_lines.specs.declared.lines.Line.{Line}
+use Rattle.rls_check.specs.rls_audit.specs.rls_audit_lines.specs.Reading.{line_found, line_text}
 use Rattle.rlsdb.specs.AuditLines.{AreLinesOf, IsLine, Reads, ReadsNext, WritesLine, ended_lines}
 
 -- a line ends at its LF

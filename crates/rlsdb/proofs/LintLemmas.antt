@@ -25,9 +25,9 @@ use Rattle.rls_lint.specs.{Findings.findings_of, Naming.IsNamed}
 use Rattle.rls_session.specs.rls_script.specs.Streams.{GrewBy}
 use Rattle.rls_command_line.specs.declared.words.Request.{Request}
 use Rattle.rls_command_line.specs.declared.words.Request.TheVariants as q
-use Rattle.rls_command_line.specs.declared.words.Lint.{Lint}
-use Rattle.rlsdb.specs.declared.linting.LintEnd.{LintEnd}
-use Rattle.rlsdb.specs.declared.linting.LintEnd.TheVariants as e
+use Rattle.rls_command_line.specs.declared.words.AuditState.{AuditState}
+use Rattle.rlsdb.specs.declared.linting.StateEnd.{StateEnd}
+use Rattle.rlsdb.specs.declared.linting.StateEnd.TheVariants as e
 use Rattle.rlsdb.specs.Answers.{Answers}
 use Rattle.rlsdb.specs.AuditLines.{Reads}
 use Rattle.rlsdb.specs.Linting.{FirstDiffers, IsLintOf, IsLinted, IsLintedAlong, Where, asked_txn, differing, first_or, is_all_right, is_clean, is_later, later_of, lint_text, state_before}
@@ -162,7 +162,7 @@ pub opens : (transactions : List Transaction) (numbers : List ℕ) (walk : Walk)
 opens transactions numbers walk walks = walks.3
 
 -- all was walked up to the later transactions
-pub along : (after : Option ℕ) (transactions : List Transaction) (numbers later : List ℕ) (walk : Walk) (s : State) (found : Option Finding) (ending : LintEnd) (old new : List ℕ) → IsWalk transactions numbers (Some walk) → Some later ≡ later_of numbers after
+pub along : (after : Option ℕ) (transactions : List Transaction) (numbers later : List ℕ) (walk : Walk) (s : State) (found : Option Finding) (ending : StateEnd) (old new : List ℕ) → IsWalk transactions numbers (Some walk) → Some later ≡ later_of numbers after
     → s ≡ state_before later (state_left walk) (left walk) → FirstDiffers later (left walk) found → new ≡ old ++ lint_text (findings_of s) → ending ≡ e.Walked (is_clean (findings_of s)) found
     → GrewBy old new (λ written. IsLinted after transactions numbers written ending)
 along after transactions numbers later walk s found ending old new walks is reached differs grew ends =
@@ -191,21 +191,21 @@ unordered after transactions numbers old none = nothing old (λ written. IsLinte
 
 -- ---- of the lines that were read
 
-pub linted : (before after old new : List ℕ) (audit : Audit) (asked : Option ℕ) (ending : LintEnd) → Reads before after (λ texts. IsAuditOf texts audit) → GrewBy old new (λ written. IsLinted asked audit.transactions audit.order written ending)
+pub linted : (before after old new : List ℕ) (audit : Audit) (asked : Option ℕ) (ending : StateEnd) → Reads before after (λ texts. IsAuditOf texts audit) → GrewBy old new (λ written. IsLinted asked audit.transactions audit.order written ending)
     → Reads before after (λ texts. GrewBy old new (λ written. IsLintOf asked texts written ending))
 linted before after old new audit asked ending reads grew =
     reads_more before after (λ texts. IsAuditOf texts audit) (λ texts. GrewBy old new (λ written. IsLintOf asked texts written ending))
     (λ texts is. grew_more old new (λ written. IsLinted asked audit.transactions audit.order written ending) (λ written. IsLintOf asked texts written ending) (λ written holds. (audit, is, holds)) grew) reads
 
 -- and how it ended
-pub ended : (old new : List ℕ) (asked : Option ℕ) (ending : LintEnd) (done : Bool) → GrewBy old new (λ written. (texts : List (List ℕ)) × IsLintOf asked texts written ending) → done ≡ is_all_right ending
-    → GrewBy old new (λ written. (texts : List (List ℕ)) × (ending : LintEnd) × IsLintOf asked texts written ending × (done ≡ is_all_right ending))
+pub ended : (old new : List ℕ) (asked : Option ℕ) (ending : StateEnd) (done : Bool) → GrewBy old new (λ written. (texts : List (List ℕ)) × IsLintOf asked texts written ending) → done ≡ is_all_right ending
+    → GrewBy old new (λ written. (texts : List (List ℕ)) × (ending : StateEnd) × IsLintOf asked texts written ending × (done ≡ is_all_right ending))
 ended old new asked ending done grew same =
-    grew_more old new (λ written. (texts : List (List ℕ)) × IsLintOf asked texts written ending) (λ written. (texts : List (List ℕ)) × (ending : LintEnd) × IsLintOf asked texts written ending × (done ≡ is_all_right ending))
+    grew_more old new (λ written. (texts : List (List ℕ)) × IsLintOf asked texts written ending) (λ written. (texts : List (List ℕ)) × (ending : StateEnd) × IsLintOf asked texts written ending × (done ≡ is_all_right ending))
     (λ written holds. (holds.0, ending, holds.1, same)) grew
 
 -- the answer
-pub answered_lint : (request : Request) (asked : Lint) (done : Bool) (old new : List ℕ) → request ≡ q.Lint asked → GrewBy old new (λ written. (texts : List (List ℕ)) × (ending : LintEnd) × IsLintOf asked.after texts written ending × (done ≡ is_all_right ending))
+pub answered_lint : (request : Request) (asked : AuditState) (done : Bool) (old new : List ℕ) → request ≡ q.Lint asked → GrewBy old new (λ written. (texts : List (List ℕ)) × (ending : StateEnd) × IsLintOf asked.after texts written ending × (done ≡ is_all_right ending))
     → GrewBy old new (λ written. Answers request written done)
 answered_lint request asked done old new is grew =
-    answered request (q.Lint asked) done old new (λ written. (texts : List (List ℕ)) × (ending : LintEnd) × IsLintOf asked.after texts written ending × (done ≡ is_all_right ending)) is (λ written holds. holds) grew
+    answered request (q.Lint asked) done old new (λ written. (texts : List (List ℕ)) × (ending : StateEnd) × IsLintOf asked.after texts written ending × (done ≡ is_all_right ending)) is (λ written holds. holds) grew

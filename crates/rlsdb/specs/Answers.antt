@@ -16,6 +16,7 @@ use Rattle.rls_check.specs.declared.filtering.ShownFilter.{ShownFilter}
 use Rattle.rls_check.specs.declared.shown_texts.Ending.{Ending}
 use Rattle.rls_check.specs.declared.shown_texts.Ending.TheVariants as e
 use Rattle.rls_check.specs.declared.walking.Turn.{Turn}
+use Rattle.rls_check.specs.Listing.{IsLong}
 use Rattle.rls_check.specs.ShownAudits.{IsShown}
 use Rattle.rls_check.specs.WhyTexts.{explanation_text}
 use Rattle.rls_session.specs.Scripts.{IsScriptText, RunsScript}
@@ -26,8 +27,10 @@ use Rattle.rls_command_line.specs.Words.{is_output, is_output_wanted}
 use Rattle.rls_command_line.specs.declared.words.ScriptFile.{ScriptFile}
 use Rattle.rls_command_line.specs.declared.words.Wanted.{Wanted}
 use Rattle.rlsdb.specs.AuditLines.{WritesAudit, ended_lines}
-use Rattle.rlsdb.specs.declared.linting.LintEnd.{LintEnd}
+use Rattle.rlsdb.specs.declared.linting.StateEnd.{StateEnd}
 use Rattle.rlsdb.specs.Linting.{IsLintOf, is_all_right}
+use Rattle.rlsdb.specs.Dumping.{IsDumpOf}
+use Rattle.rlsdb.specs.Numbers.{IsNumberedText}
 use Rattle.rlsdb.specs.Tests.{AreTested, IsStopText}
 
 -- What was taken grew by the text of the script that was given, run in phases or in the order of its lines. Told tersely, serialization
@@ -110,6 +113,10 @@ filter_of it = record { roles = it.roles; logins = it.logins; txns = it.txns; ta
 abbrev pub IsShownOf : ShownFilter → List (List ℕ) → List ℕ → Ending → Type 0
 IsShownOf it texts written ending = (audit : Audit) × IsAuditOf texts audit × IsShown it audit.transactions audit.order written ending
 
+-- the transactions of the audit whose lines these are, along its order, with what their statements come to, and how it ended
+abbrev pub IsLongOf : List (List ℕ) → List ℕ → Ending → Type 0
+IsLongOf texts written ending = (audit : Audit) × IsAuditOf texts audit × IsLong audit.transactions audit.order written ending
+
 -- all statements came to what the audit shows
 abbrev pub is_whole : Ending → Bool
 is_whole (e.Walked None) = true
@@ -134,6 +141,11 @@ abbrev pub IsStopAnswer : (together : Bool) → ScriptFile → List ℕ → Bool
 IsStopAnswer true run written done = IsWithAudit (λ text history. IsStopText run.terse text history done) written
 IsStopAnswer false run written done = (history : List Record) × (taken : Option (List ℕ)) × IsStopText run.terse written history done × IsAudited run.audit history taken
 
+-- the same of a run whose answers are numbered
+abbrev pub IsNumbersAnswer : (together : Bool) → ScriptFile → List ℕ → Type 0
+IsNumbersAnswer true run written = IsWithAudit (IsNumberedText run.terse) written
+IsNumbersAnswer false run written = (history : List Record) × (taken : Option (List ℕ)) × IsNumberedText run.terse written history × IsAudited run.audit history taken
+
 -- of what was made, what is an answer: all, or nothing where a file took it
 abbrev pub answered_part : (together : Bool) → List ℕ → List ℕ
 answered_part true made = made
@@ -143,13 +155,16 @@ answered_part false made = []
 abbrev pub Answers : Request → List ℕ → Bool → Type 0
 Answers (q.Run run) written done = IsRunAnswer (is_output_wanted run.audit) run written × (done ≡ true)
 Answers (q.RunStopping run) written done = IsStopAnswer (is_output_wanted run.audit) run written done
+Answers (q.RunNumbered run) written done = IsNumbersAnswer (is_output_wanted run.audit) run written × (done ≡ true)
 Answers (q.Test tests) written done = AreTested (map (λ name. name.now) tests.files.items) written done
 Answers (q.Order name) written done = (texts : List (List ℕ)) × IsOrderOf texts written × (done ≡ true)
+Answers (q.OrderLong name) written done = (texts : List (List ℕ)) × (ending : Ending) × IsLongOf texts written ending × (done ≡ is_whole ending)
 Answers (q.Check it) written done =
     (made : List ℕ) × AreChecked (nat_lt 1 (length it.audits.items)) (map (λ name. name.now) it.audits.items) made done × (written ≡ answered_part (not it.quiet) made)
 Answers (q.Explain asked) written done = (texts : List (List ℕ)) × IsWhyOf asked.txn asked.statement asked.row texts written done
 Answers (q.Shown asked) written done = (texts : List (List ℕ)) × (ending : Ending) × IsShownOf (filter_of asked.wanted) texts written ending × (done ≡ is_whole ending)
-Answers (q.Lint asked) written done = (texts : List (List ℕ)) × (ending : LintEnd) × IsLintOf asked.after texts written ending × (done ≡ is_all_right ending)
+Answers (q.Lint asked) written done = (texts : List (List ℕ)) × (ending : StateEnd) × IsLintOf asked.after texts written ending × (done ≡ is_all_right ending)
+Answers (q.Dump asked) written done = (texts : List (List ℕ)) × (ending : StateEnd) × IsDumpOf asked.after texts written ending × (done ≡ is_all_right ending)
 Answers (q.Parse name) written done = IsParsed written done
 Answers (q.Migrate from to) written done =
     (texts : List (List ℕ)) × (taken : List ℕ) × IsMigrationOf texts taken × (written ≡ answered_part (is_output to.now) taken) × (done ≡ true)

@@ -1,12 +1,12 @@
 -- What is read of an audit file, and what is written: lines.
 use Rattle.std.specs.Prelude.{◌≡◌, ◌⊎◌, ◌≢◌, ◌++◌, ◌∷◌, [], ℕ, List, Bool, true, false, Some}
 use Rattle.std.specs.List.{All, AllZip, flat_map}
-use Rattle.rls_check.specs.rls_audit.specs.declared.lines.Line.{Line}
+use Rattle.rls_check.specs.rls_audit.specs.rls_audit_lines.specs.declared.lines.Line.{Line}
 use Rattle.rlsdb.specs.declared.audit_file.NextLine.{NextLine}
 use Rattle.rlsdb.specs.declared.audit_file.NextLine.TheVariants as came
 use Rattle.rls_check.specs.rls_audit.specs.Lines as shown
 use Rattle.rls_check.specs.rls_audit.specs.Printed.{texts_from, texts_of}
-use Rattle.rls_check.specs.rls_audit.specs.Reading.{line_found, line_text}
+use Rattle.rls_check.specs.rls_audit.specs.rls_audit_lines.specs.Reading.{line_found, line_text}
 use Rattle.rls_check.specs.rls_audit.specs.Shows.{Means}
 use Rattle.rls_check.specs.rls_audit.specs.rls_core.specs.Calls.{IsOrderBy}
 use Rattle.rls_check.specs.rls_audit.specs.rls_core.specs.Records.{Record}

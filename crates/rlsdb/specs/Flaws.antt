@@ -1,8 +1,8 @@
 -- What is wrong with lines of audits that are bad.
 use Rattle.std.specs.Prelude.{◌≡◌, ◌⊎◌, ◌∷◌, [], ℕ, nat_eq, List, Bool, true, false, Option, Some, None, codes, IsUtf8}
 use Rattle.std.specs.List.{starts_with}
-use Rattle.rls_check.specs.rls_audit.specs.declared.lines.Line.{Line}
-use Rattle.rls_check.specs.rls_audit.specs.Reading.{MeansLine}
+use Rattle.rls_check.specs.rls_audit.specs.rls_audit_lines.specs.declared.lines.Line.{Line}
+use Rattle.rls_check.specs.rls_audit.specs.rls_audit_lines.specs.Reading.{MeansLine}
 use Rattle.rlsdb.specs.declared.flaw.Flaw.{Flaw}
 use Rattle.rlsdb.specs.declared.flaw.Flaw.TheVariants as flaw
 

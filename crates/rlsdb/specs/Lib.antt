@@ -1,6 +1,9 @@
 pub mod AuditLines
 pub mod Tests
+pub mod Numbers
 pub mod Linting
+pub mod Dumping
+pub mod Listing
 pub mod Answers
 pub mod Flaws
 pub mod Missing

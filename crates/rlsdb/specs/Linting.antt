@@ -15,8 +15,8 @@ use Rattle.rls_check.specs.Checking.{Decided, IsAnswer, IsNoOrder, IsPlaced}
 use Rattle.rls_check.specs.Walking.{Standing, standings_along}
 use Rattle.rls_check.specs.Wholes.{IsAuditOf}
 use Rattle.rlsdb.specs.AuditLines.{ended_lines}
-use Rattle.rlsdb.specs.declared.linting.LintEnd.{LintEnd}
-use Rattle.rlsdb.specs.declared.linting.LintEnd.TheVariants as e
+use Rattle.rlsdb.specs.declared.linting.StateEnd.{StateEnd}
+use Rattle.rlsdb.specs.declared.linting.StateEnd.TheVariants as e
 
 -- ---- where the state stands
 
@@ -72,7 +72,7 @@ is_clean [] = true
 is_clean (it ∷ more) = false
 
 -- along the order, in front of the later transactions; nothing is written where there is no such transaction
-abbrev pub IsLintedAlong : Option (List ℕ) → ℕ → List Standing → List ℕ → LintEnd → Type 0
+abbrev pub IsLintedAlong : Option (List ℕ) → ℕ → List Standing → List ℕ → StateEnd → Type 0
 IsLintedAlong None txn standings written ending = (written ≡ []) × (ending ≡ e.Missing txn)
 IsLintedAlong (Some later) txn standings written ending =
     (written ≡ lint_text (findings_of (state_before later opening standings)))
@@ -84,16 +84,16 @@ asked_txn (Some txn) = txn
 asked_txn None = 0
 
 -- what is written of an audit, and how it ends; nothing where the numbers are no order
-abbrev pub IsLinted : Option ℕ → List Transaction → List ℕ → List ℕ → LintEnd → Type 0
+abbrev pub IsLinted : Option ℕ → List Transaction → List ℕ → List ℕ → StateEnd → Type 0
 IsLinted after transactions numbers written ending =
     ((places : List ℕ) × IsPlaced transactions numbers places × IsLintedAlong (later_of numbers after) (asked_txn after) (standings_along transactions opening places) written ending)
     ⊎ (IsNoOrder transactions numbers × (written ≡ []) × (ending ≡ e.NoOrder))
 
 -- of the audit whose lines these are
-abbrev pub IsLintOf : Option ℕ → List (List ℕ) → List ℕ → LintEnd → Type 0
+abbrev pub IsLintOf : Option ℕ → List (List ℕ) → List ℕ → StateEnd → Type 0
 IsLintOf after texts written ending = (audit : Audit) × IsAuditOf texts audit × IsLinted after audit.transactions audit.order written ending
 
 -- nothing was found, and each statement came to what the audit shows
-abbrev pub is_all_right : LintEnd → Bool
+abbrev pub is_all_right : StateEnd → Bool
 is_all_right (e.Walked true None) = true
 is_all_right ending = false

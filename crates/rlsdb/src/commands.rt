@@ -10,7 +10,9 @@ ghost use Rattle.rlsdb.specs.Faults.{EndsAnswer, EndsWith, EndsMistake};
 
 use crate::device::{DeviceOut, Nowhere};
 use crate::fault::Fault;
-use crate::{audits, hinting, linting, running, shown, stopping, testing};
+use crate::{
+    audits, dumping, hinting, linting, listing, numbering, running, shown, stopping, testing,
+};
 use clap::error::ErrorKind;
 use rls_command_line::{
     Checks, Mistake, Request, ScriptFile, is_output, is_output_wanted, request_of,
@@ -31,7 +33,7 @@ const FAULT: u8 = 1;
 const USAGE: u8 = 2;
 
 // A check or a test says no, a refusal stopped a run, a line of an audit is bad or what it shows is false, there is no such decision,
-// a state has a mistake, or a line of a script isn't taken.
+// a state has a mistake or no script that rebuilds it, or a line of a script isn't taken.
 const NO: u8 = 3;
 
 // What stands for the name of the answers' file.
@@ -124,7 +126,7 @@ fn serve<'a, W: Threads + Wait + Clock + Sync, D: Write + Drop>(
 }
 
 /// Does what is asked for.
-#[tactic(auto, using(crate::proofs::CommandLemmas::ran, crate::proofs::CommandLemmas::ordered, crate::proofs::CommandLemmas::checked, crate::proofs::CommandLemmas::explained, crate::proofs::ShownLemmas::answered_shown, crate::proofs::LintLemmas::answered_lint, crate::proofs::CommandLemmas::migrated, crate::proofs::CommandLemmas::parsed, crate::proofs::TestLemmas::tests_answered, crate::proofs::TestLemmas::stop_answered))]
+#[tactic(auto, using(crate::proofs::CommandLemmas::ran, crate::proofs::CommandLemmas::ordered, crate::proofs::ListingLemmas::answered_long, crate::proofs::CommandLemmas::checked, crate::proofs::CommandLemmas::explained, crate::proofs::ShownLemmas::answered_shown, crate::proofs::LintLemmas::answered_lint, crate::proofs::DumpLemmas::answered_dump, crate::proofs::CommandLemmas::migrated, crate::proofs::CommandLemmas::parsed, crate::proofs::TestLemmas::tests_answered, crate::proofs::TestLemmas::stop_answered, crate::proofs::NumberLemmas::numbers_answered))]
 fn answer<'a, W: Threads + Wait + Clock + Sync, D: Write + Drop>(
     rt: &HostRuntime,
     waits: &W,
@@ -136,15 +138,18 @@ fn answer<'a, W: Threads + Wait + Clock + Sync, D: Write + Drop>(
     match request {
         Request::Run(run) => Ok(run_script(rt, waits, run, output)?),
         Request::RunStopping(run) => Ok(run_stopping(rt, waits, run, output)?),
+        Request::RunNumbered(run) => Ok(run_numbered(rt, waits, run, output)?),
         Request::Test(tests) => Ok(testing::test(rt, waits, &tests, output)?),
         Request::Order(audit) => {
             audits::order(rt, audit, output)?;
             Ok(true)
         }
+        Request::OrderLong(audit) => Ok(listing::list(rt, audit, output)?),
         Request::Check(checks) => Ok(check(rt, &checks, output)?),
         Request::Explain(asked) => Ok(audits::explain(rt, asked, output)?),
         Request::Shown(asked) => Ok(shown::shown(rt, asked, output)?),
         Request::Lint(asked) => Ok(linting::lint(rt, asked, output)?),
+        Request::Dump(asked) => Ok(dumping::dump(rt, waits, asked, output)?),
         Request::Migrate(from, to) => Ok(migrate(rt, from, to, output)?),
         Request::Parse(file) => Ok(hinting::parse(rt, file, output)?),
     }
@@ -184,6 +189,24 @@ fn run_stopping<'a, W: Threads + Wait + Clock + Sync, D: Write + Drop>(
     } else {
         stopping::run_stopping(rt, waits, run, output)
     }
+}
+
+/// Runs the script, each answer behind the transaction that its line was answered in.
+#[tactic(auto, using(crate::proofs::NumberLemmas::numbered_apart, crate::proofs::NumberLemmas::numbered_together))]
+fn run_numbered<'a, W: Threads + Wait + Clock + Sync, D: Write + Drop>(
+    rt: &HostRuntime,
+    waits: &W,
+    run: ScriptFile<'a>,
+    output: &mut DeviceOut<D>,
+) -> Result<bool, Fault<'a>>
+    ensures { IfOk result (λ done. GrewBy output.old.taken.bytes output.new.taken.bytes (λ written. Answers (Request.RunNumbered run.entry) written done)) }
+{
+    if is_output_wanted(run.audit) {
+        numbering::run_numbered_with_audit(rt, waits, run, output)?;
+        return Ok(true);
+    }
+    numbering::run_numbered(rt, waits, run, output)?;
+    Ok(true)
 }
 
 /// Checks the audits, and writes what is found unless the status alone is to say it.

@@ -4,7 +4,7 @@ ghost use Rattle.std.specs.Prelude.{◌≡◌, true, false, None, IfSome};
 ghost use Rattle.std.specs.IoError.{error_kind};
 ghost use Rattle.std.specs.declared.io.ErrorKind.TheVariants.{OutOfMemory};
 ghost use Rattle.rls_session.specs.rls_script.specs.declared.fault.RunFault.TheVariants.{NoMemory, Foreign, Write};
-ghost use Rattle.rls_check.specs.rls_audit.specs.declared.showing.Unshown.TheVariants.{Never};
+ghost use Rattle.rls_check.specs.rls_audit.specs.rls_audit_lines.specs.declared.unshown.Unshown.TheVariants.{Never};
 ghost use Rattle.rlsdb.specs.declared.fault.Fault.TheVariants.{Ended};
 ghost use Rattle.rlsdb.specs.Faults.{IsFlawed, ended_fault, line_fault, named_fault, unread_fault, unwritten_fault};
 

@@ -7,12 +7,13 @@ ghost use Rattle.rlsdb.specs.Answers.{IsParsed};
 
 use crate::device::DeviceIn;
 use crate::fault::Fault;
-use crate::script_file::read_file;
+use crate::script_file::{input_of, read_file};
 use rls_hints::{Place, hint_of, label_hint};
 use rls_session::rls_script::{
-    Failed, Line, RunFault, ScriptIn, ScriptOut, first_line, read_line, write_all,
+    Failed, Line, RunFault, ScriptIn, ScriptOut, first_line, read_line, read_script, write_all,
 };
 use std::alloc::{AllocError, Global};
+use std::fs::File;
 use std::io::Read;
 use std::{io, str};
 
@@ -97,6 +98,31 @@ fn hint_in(
             }
             Err(_) => Ok(Some(label_hint(alloc, file, number)?)),
         },
+    }
+}
+
+/// All bytes of the script that is in the file, or on the standard input. Standard error is told of its lines that aren't taken.
+pub fn read_hinted<'a>(rt: &HostRuntime, name: &'a str) -> Result<Vec<u8>, Fault<'a>> {
+    match name {
+        "-" => read_telling(rt, name, rt.reader()),
+        name => match File::open(rt, name) {
+            Ok(file) => read_telling(rt, name, file),
+            Err(error) => Err(Fault::of_script(name, error)),
+        },
+    }
+}
+
+/// The same of a reader.
+fn read_telling<'a, R: Read + Drop>(
+    rt: &HostRuntime,
+    name: &'a str,
+    reader: R,
+) -> Result<Vec<u8>, Fault<'a>> {
+    let input = input_of(rt, name, reader)?;
+    let mut hinted = Hinted::new(rt, name, input);
+    match read_script(rt.alloc(), &mut hinted) {
+        Ok(script) => Ok(script),
+        Err(fault) => Err(Fault::Ended(fault).named(name, hinted.error())),
     }
 }
 

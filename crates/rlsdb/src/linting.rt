@@ -19,16 +19,17 @@ use crate::fault::Fault;
 use rls_check::rls_audit::rls_access::Effect;
 use rls_check::rls_guard::rls_catalog::rls_value::Items;
 use rls_check::{Audit, Finding, Turn, Walk};
-use rls_command_line::Lint;
+use rls_command_line::AuditState;
 use rls_lint::rls_rows::State;
 use rls_lint::{Finding as Mistaken, Named, findings};
 use rls_session::rls_script::{Failed, RunFault, ScriptIn, ScriptOut, write_all};
 use std::alloc::{AllocError, Global};
 
-/// How a search for mistakes ended.
+/// How a command about a state of an audit ended.
 #[derive(Clone, Copy)]
-pub enum LintEnd {
-    /// Whether nothing was found; and the first statement on the way that comes to another answer than the audit shows.
+pub enum StateEnd {
+    /// Whether the state is as it should be: it has no mistake, or a script that rebuilds it; and the first statement on the way that
+    /// comes to another answer than the audit shows.
     Walked(bool, Option<Finding>),
     /// There is no transaction of that number.
     Missing(u64),
@@ -38,10 +39,10 @@ pub enum LintEnd {
 
 /// A state of an audit, the roles and the tables that it has, and what differed on the way.
 #[derive(Drop)]
-struct Reached {
-    state: State,
-    named: Named,
-    differs: Option<Finding>,
+pub(crate) struct Reached {
+    pub(crate) state: State,
+    pub(crate) named: Named,
+    pub(crate) differs: Option<Finding>,
 }
 
 /// Writes what is likely a mistake, and says whether nothing is, and all statements come to what the audit shows. Standard error is
@@ -49,10 +50,10 @@ struct Reached {
 #[tactic(auto, using(crate::proofs::LintLemmas::ended))]
 pub fn lint<'a, O: ScriptOut>(
     rt: &HostRuntime,
-    asked: Lint<'a>,
+    asked: AuditState<'a>,
     output: &mut O,
 ) -> Result<bool, Fault<'a>>
-    ensures { IfOk result (λ done. GrewBy (O.taken output.old) (O.taken output.new) (λ written. (texts : List (List ℕ)) × (ending : LintEnd) × spec.IsLintOf asked.entry.after texts written ending × (done ≡ spec.is_all_right ending))) }
+    ensures { IfOk result (λ done. GrewBy (O.taken output.old) (O.taken output.new) (λ written. (texts : List (List ℕ)) × (ending : StateEnd) × spec.IsLintOf asked.entry.after texts written ending × (done ≡ spec.is_all_right ending))) }
 {
     let ending = lint_from(rt, asked, output)?;
     tell(rt, asked.audit, ending);
@@ -63,9 +64,9 @@ pub fn lint<'a, O: ScriptOut>(
 #[tactic(auto, using(crate::proofs::AnswerLemmas::of_some))]
 fn lint_from<'a, O: ScriptOut>(
     rt: &HostRuntime,
-    asked: Lint<'a>,
+    asked: AuditState<'a>,
     output: &mut O,
-) -> Result<LintEnd, Fault<'a>>
+) -> Result<StateEnd, Fault<'a>>
     ensures { IfOk result (λ ending. GrewBy (O.taken output.old) (O.taken output.new) (λ written. (texts : List (List ℕ)) × spec.IsLintOf asked.entry.after texts written ending)) }
 {
     let name = asked.audit;
@@ -77,25 +78,25 @@ fn lint_from<'a, O: ScriptOut>(
 }
 
 /// Tells standard error what isn't all right.
-fn tell(rt: &HostRuntime, name: &str, ending: LintEnd) {
+fn tell(rt: &HostRuntime, name: &str, ending: StateEnd) {
     match ending {
-        LintEnd::Walked(_, None) => {}
-        LintEnd::Walked(_, Some(finding)) => {
+        StateEnd::Walked(_, None) => {}
+        StateEnd::Walked(_, Some(finding)) => {
             let _ = eprintln!(rt; "rlsdb: {name}: {finding}");
         }
-        LintEnd::Missing(txn) => {
+        StateEnd::Missing(txn) => {
             let _ = eprintln!(rt; "rlsdb: {name}: no transaction {txn}");
         }
-        LintEnd::NoOrder => {
+        StateEnd::NoOrder => {
             let _ = eprintln!(rt; "rlsdb: {name}: no: order");
         }
     }
 }
 
-fn is_all_right(ending: LintEnd) -> bool
+pub(crate) fn is_all_right(ending: StateEnd) -> bool
     ensures { result ≡ spec.is_all_right ending }
 {
-    matches!(ending, LintEnd::Walked(true, None))
+    matches!(ending, StateEnd::Walked(true, None))
 }
 
 /// Of the audit that is read.
@@ -106,7 +107,7 @@ fn write_lint<'a, I: ScriptIn + Drop, O: ScriptOut>(
     input: &mut AuditIn<I>,
     after: Option<u64>,
     output: &mut O,
-) -> Result<LintEnd, Fault<'a>>
+) -> Result<StateEnd, Fault<'a>>
     ensures { IfOk result (λ ending. Reads (I.given input.old.input) (I.given input.new.input) (λ texts. GrewBy (O.taken output.old) (O.taken output.new) (λ written. spec.IsLintOf after texts written ending))) }
 {
     let audit = read_audit(alloc, name, input)?;
@@ -122,11 +123,11 @@ fn lint_audit<O: ScriptOut>(
     audit: &Audit,
     after: Option<u64>,
     output: &mut O,
-) -> Result<LintEnd, RunFault>
+) -> Result<StateEnd, RunFault>
     ensures { IfOk result (λ ending. GrewBy (O.taken output.old) (O.taken output.new) (λ written. spec.IsLinted after audit.now.transactions audit.now.order written ending)) }
 {
     let Some(mut walk) = audit.walk(alloc)? else {
-        return Ok(LintEnd::NoOrder);
+        return Ok(StateEnd::NoOrder);
     };
     match later_of(audit.order(), after) {
         Some(later) => {
@@ -137,12 +138,12 @@ fn lint_audit<O: ScriptOut>(
         }
         None => {
             drop(walk);
-            Ok(LintEnd::Missing(asked_txn(after)))
+            Ok(StateEnd::Missing(asked_txn(after)))
         }
     }
 }
 
-fn asked_txn(after: Option<u64>) -> u64
+pub(crate) fn asked_txn(after: Option<u64>) -> u64
     ensures { result ≡ spec.asked_txn after }
 {
     match after {
@@ -152,7 +153,7 @@ fn asked_txn(after: Option<u64>) -> u64
 }
 
 /// The transactions that run later; none where there is none of that number.
-fn later_of(numbers: &[u64], after: Option<u64>) -> Option<&[u64]>
+pub(crate) fn later_of(numbers: &[u64], after: Option<u64>) -> Option<&[u64]>
     ensures { option_map (λ later. later.now) result ≡ spec.later_of numbers.now after }
 {
     match after {
@@ -177,7 +178,11 @@ fn behind(txn: u64, mut numbers: &[u64]) -> Option<&[u64]>
 
 /// The state in front of the first statement of these; else that behind all.
 #[tactic(auto, using(crate::proofs::LintLemmas::named_first))]
-fn reach<'a>(alloc: Global, walk: &mut Walk<'a>, later: &[u64]) -> Result<Reached, AllocError>
+pub(crate) fn reach<'a>(
+    alloc: Global,
+    walk: &mut Walk<'a>,
+    later: &[u64],
+) -> Result<Reached, AllocError>
     requires { state_left walk.old ≡ opening }
     ensures state { IfOk result (λ reached. reached.state ≡ spec.state_before later.now (state_left walk.old) (left walk.old)) }
     ensures named { IfOk result (λ reached. IsNamed reached.state reached.named) }
@@ -279,10 +284,10 @@ fn write_reached<O: ScriptOut>(
     alloc: Global,
     reached: Reached,
     output: &mut O,
-) -> Result<LintEnd, RunFault>
+) -> Result<StateEnd, RunFault>
     requires { IsNamed reached.state reached.named }
     ensures text { OnOk result (O.taken output.new ≡ O.taken output.old ++ spec.lint_text (findings_of reached.state)) }
-    ensures ending { IfOk result (λ ending. ending ≡ LintEnd.Walked (spec.is_clean (findings_of reached.state)) reached.differs) }
+    ensures ending { IfOk result (λ ending. ending ≡ StateEnd.Walked (spec.is_clean (findings_of reached.state)) reached.differs) }
 {
     let Reached {
         state,
@@ -294,7 +299,7 @@ fn write_reached<O: ScriptOut>(
     drop(named);
     let found = found?;
     write_findings(alloc, found.as_slice(), output)?;
-    Ok(LintEnd::Walked(is_clean(&found), differs))
+    Ok(StateEnd::Walked(is_clean(&found), differs))
 }
 
 fn is_clean(found: &Items<Mistaken>) -> bool

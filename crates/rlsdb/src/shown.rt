@@ -79,7 +79,7 @@ fn shown_from<'a, O: ScriptOut>(
 }
 
 /// Tells standard error what isn't whole.
-fn tell(rt: &HostRuntime, name: &str, ending: Ending) {
+pub(crate) fn tell(rt: &HostRuntime, name: &str, ending: Ending) {
     match ending {
         Ending::Walked(None) => {}
         Ending::Walked(Some(finding)) => {
@@ -95,7 +95,7 @@ fn tell(rt: &HostRuntime, name: &str, ending: Ending) {
 }
 
 /// Whether all statements came to what the audit shows.
-fn is_whole(ending: Ending) -> bool
+pub(crate) fn is_whole(ending: Ending) -> bool
     ensures { result ≡ is_whole ending }
 {
     matches!(ending, Ending::Walked(None))

@@ -82,7 +82,7 @@ fn write_answers<'a, D: Write + Drop>(
 
 /// Writes the audit of the book where one is wanted.
 #[tactic(auto, using(crate::proofs::AnswerLemmas::audit_taken, crate::proofs::AnswerLemmas::no_audit))]
-fn write_wanted<'a>(
+pub(crate) fn write_wanted<'a>(
     rt: &HostRuntime,
     audit: Option<&'a str>,
     book: &Book,

@@ -4,7 +4,8 @@ use Rattle.std.proofs.Common.{subst, sym, take}
 use Rattle.std.proofs.lemmas.List.{take_all}
 use Rattle.rls_core.specs.Posts.{effect_of}
 use Rattle.rls_audit.specs.Lines.{ordered_changes}
-use Rattle.rls_audit.specs.Showing.{CanShow, Fails}
+use Rattle.rls_audit.specs.Showing.{CanShow}
+use Rattle.rls_audit_lines.specs.Unshown.{Fails}
 use Rattle.rls_audit.specs.ShownParts.{ShowsChange, Adds}
 use Rattle.rls_audit.proofs.ShowingLemmas.{one_of_all, part_fails}
 use Rattle.rls_audit.proofs.ZipLemmas.{flat_more}

@@ -1,9 +1,10 @@
 use Rattle.std.proofs.Common.{ap, sym, subst, ◌∙◌}
-use Rattle.rls_text.specs.{ParseResults.IsSpelled, Words.words_of}
+use Rattle.rls_audit_lines.specs.rls_text.specs.{ParseResults.IsSpelled, Words.words_of}
 use Rattle.rls_core.specs.rls_guard.specs.Effects.{decisions_of, reply_of}
 use Rattle.rls_audit.specs.Printed.{printed_text}
 use Rattle.rls_audit.specs.Showing.{IsSpellable}
-use Rattle.rls_audit.proofs.{AskedLemmas.asked_spelled, ShowingLemmas.same_answered}
+use Rattle.rls_audit.proofs.{ShowingLemmas.same_answered}
+use Rattle.rls_audit_lines.proofs.AskedLemmas.{asked_spelled}
 use Rattle.rls_audit.proofs.showing.answer_with.Goals as goal
 
 pub returns : goal.returns

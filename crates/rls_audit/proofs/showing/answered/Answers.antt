@@ -2,7 +2,8 @@ use Rattle.std.specs.Prelude.{◌+◌, map}
 use Rattle.std.specs.List.{All, AllZip}
 use Rattle.std.proofs.Common.{subst, sym, take}
 use Rattle.rls_core.specs.Posts.{effect_of}
-use Rattle.rls_audit.specs.Showing.{CanShow, Fails}
+use Rattle.rls_audit.specs.Showing.{CanShow}
+use Rattle.rls_audit_lines.specs.Unshown.{Fails}
 use Rattle.rls_audit.specs.ShownParts.{ShowsPost}
 use Rattle.rls_audit.proofs.ShowingLemmas.{one_of_all, part_fails}
 use Rattle.rls_audit.proofs.ZipLemmas.{zip_more, zip_whole}

@@ -1,6 +1,6 @@
 use Rattle.std.proofs.Common.{sym, subst}
 use Rattle.rls_audit.specs.ShownParts.{ShowsChange}
-use Rattle.rls_audit.specs.declared.changes.Changed.TheVariants as changed
+use Rattle.rls_audit_lines.specs.declared.changes.Changed.TheVariants as changed
 use Rattle.rls_audit.proofs.ShowingLemmas.{policies_written, table_written}
 use Rattle.rls_audit.proofs.showing.changed_by.Goals as goal
 

@@ -2,7 +2,8 @@ use Rattle.std.specs.List.{All}
 use Rattle.std.proofs.Common.{sym, subst, ◌∙◌}
 use Rattle.rls_audit.specs.Lines as lines
 use Rattle.rls_audit.specs.Lines.{shown}
-use Rattle.rls_audit.specs.Showing.{CanShow, Fails}
+use Rattle.rls_audit.specs.Showing.{CanShow}
+use Rattle.rls_audit_lines.specs.Unshown.{Fails}
 use Rattle.rls_audit.specs.Shows.{ShowsLine}
 use Rattle.rls_audit.proofs.ShowingLemmas.{line_printed, line_shows}
 use Rattle.rls_audit.proofs.showing.line_of_record.Goals as goal

@@ -3,7 +3,7 @@ use Rattle.std.specs.String.{string_bytes}
 use Rattle.rls_statement.specs.declared.statement.Statement.TheVariants.{CreatePolicy}
 use Rattle.rls_printing.specs.Outputs.{output_tokens_text}
 use Rattle.rls_printing.specs.StatementForms as form
-use Rattle.rls_text.specs.Words.{words_of}
+use Rattle.rls_audit_lines.specs.rls_text.specs.Words.{words_of}
 use Rattle.rls_audit.specs.ShownParts.{ShowsPolicy}
 use Rattle.rls_audit.proofs.ShowingLemmas.{printed_bytes, spelled_again, taken}
 use Rattle.rls_audit.proofs.showing.policy_text.Goals as goal

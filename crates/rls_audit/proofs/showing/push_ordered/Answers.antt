@@ -1,6 +1,7 @@
 use Rattle.std.specs.List.{All}
 use Rattle.std.proofs.Common.{sym, subst}
-use Rattle.rls_audit.specs.Showing.{CanTell, Gives}
+use Rattle.rls_audit.specs.Showing.{CanTell}
+use Rattle.rls_audit_lines.specs.Unshown.{Gives}
 use Rattle.rls_audit.specs.ShownParts.{Adds}
 use Rattle.rls_audit.proofs.showing.push_ordered.Goals as goal
 

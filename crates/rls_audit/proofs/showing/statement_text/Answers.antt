@@ -1,6 +1,6 @@
 use Rattle.std.specs.Prelude.{◌≡◌}
 use Rattle.std.specs.String.{string_bytes}
-use Rattle.rls_text.specs.{ParseResults.IsSpelled, Words.words_of}
+use Rattle.rls_audit_lines.specs.rls_text.specs.{ParseResults.IsSpelled, Words.words_of}
 use Rattle.rls_audit.specs.{Printed.printed_text, Showing.IsSpellable}
 use Rattle.rls_audit.proofs.ShowingLemmas.{taken}
 use Rattle.rls_audit.proofs.showing.statement_text.Goals as goal

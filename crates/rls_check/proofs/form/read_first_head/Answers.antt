@@ -1,7 +1,7 @@
 use Rattle.std.specs.Prelude.{◌≡◌, false}
 use Rattle.std.proofs.Common.{subst}
-use Rattle.rls_audit.specs.declared.lines.Line.TheVariants.{Head}
-use Rattle.rls_audit.specs.Reading.{TellsWhether}
+use Rattle.rls_audit.specs.rls_audit_lines.specs.declared.lines.Line.TheVariants.{Head}
+use Rattle.rls_audit.specs.rls_audit_lines.specs.Reading.{TellsWhether}
 use Rattle.rls_check.specs.Forms.{HeadOf}
 use Rattle.rls_check.proofs.FormLemmas.{first_head, no_first_head, line_refused}
 use Rattle.rls_check.proofs.form.read_first_head.Goals as goal

@@ -1,7 +1,7 @@
 use Rattle.std.specs.Prelude.{List, [], ◌∷◌, ◌++◌}
 use Rattle.std.specs.List.{All, AllZip}
 use Rattle.std.proofs.Common.{sym, subst}
-use Rattle.rls_audit.specs.Reading.{HasStatement}
+use Rattle.rls_audit.specs.rls_audit_lines.specs.Reading.{HasStatement}
 use Rattle.rls_check.specs.Keeping.{KeepsAnswer}
 use Rattle.rls_check.proofs.KeepingLemmas.{zip_push, first_is, rest_are}
 use Rattle.rls_check.proofs.keeping.answers_of.Goals as goal

@@ -1,5 +1,5 @@
 use Rattle.std.specs.List.{All, AllZip}
-use Rattle.rls_audit.specs.Reading.{HasStatement}
+use Rattle.rls_audit.specs.rls_audit_lines.specs.Reading.{HasStatement}
 use Rattle.rls_check.specs.Keeping.{KeepsAnswer}
 use Rattle.rls_check.proofs.keeping.answers_of.Given as goal
 

@@ -3,7 +3,7 @@ use Rattle.std.proofs.Common.{subst, sym}
 use Rattle.rls_value.specs.declared.refusal.Refusal.{Refusal}
 use Rattle.rls_value.specs.declared.refusal.Refusal.TheVariants.{NoMemory}
 use Rattle.rls_statement.specs.declared.command.Command.{Command}
-use Rattle.rls_audit.specs.rls_text.specs.{Commands.AnswersCommand, Commands.IsCommandSpelled, Words.words_of}
+use Rattle.rls_audit.specs.rls_audit_lines.specs.rls_text.specs.{Commands.AnswersCommand, Commands.IsCommandSpelled, Words.words_of}
 use Rattle.rls_check.proofs.KeepingLemmas.{command_made}
 use Rattle.rls_check.proofs.keeping.asked_of.Goals as goal
 

@@ -1,4 +1,4 @@
-use Rattle.rls_audit.specs.Reading.{IsPolicyText}
+use Rattle.rls_audit.specs.rls_audit_lines.specs.Reading.{IsPolicyText}
 use Rattle.rls_check.proofs.KeepingLemmas.{one_of}
 use Rattle.rls_check.proofs.keeping.policies_of.Goals as goal
 

@@ -1,7 +1,7 @@
 use Rattle.std.specs.Prelude.{List, [], ◌∷◌, ◌++◌}
 use Rattle.std.specs.List.{AllZip}
 use Rattle.std.proofs.Common.{sym, subst}
-use Rattle.rls_audit.specs.Reading.{HasPolicies}
+use Rattle.rls_audit.specs.rls_audit_lines.specs.Reading.{HasPolicies}
 use Rattle.rls_check.specs.Keeping.{KeepsPut}
 use Rattle.rls_check.proofs.KeepingLemmas.{zip_push, rest_are}
 use Rattle.rls_check.proofs.keeping.puts_of.Goals as goal

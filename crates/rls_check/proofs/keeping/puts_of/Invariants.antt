@@ -1,5 +1,5 @@
 use Rattle.std.specs.List.{All, AllZip}
-use Rattle.rls_audit.specs.Reading.{HasPolicies}
+use Rattle.rls_audit.specs.rls_audit_lines.specs.Reading.{HasPolicies}
 use Rattle.rls_check.specs.Keeping.{KeepsPut}
 use Rattle.rls_check.proofs.keeping.puts_of.Given as goal
 

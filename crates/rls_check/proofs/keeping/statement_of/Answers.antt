@@ -1,7 +1,7 @@
 use Rattle.std.specs.Prelude.{◌≡◌, Err, IfOk}
 use Rattle.std.proofs.Common.{subst}
 use Rattle.rls_value.specs.declared.refusal.Refusal.TheVariants.{NoMemory}
-use Rattle.rls_audit.specs.rls_text.specs.{ParseResults.IsParseResult, ParseResults.IsSpelled, Words.words_of}
+use Rattle.rls_audit.specs.rls_audit_lines.specs.rls_text.specs.{ParseResults.IsParseResult, ParseResults.IsSpelled, Words.words_of}
 use Rattle.rls_check.proofs.KeepingLemmas.{statement_made}
 use Rattle.rls_check.proofs.keeping.statement_of.Goals as goal
 

@@ -1,5 +1,5 @@
 use Rattle.std.proofs.Common.{subst}
-use Rattle.rls_audit.specs.Reading.{TellsWhether}
+use Rattle.rls_audit.specs.rls_audit_lines.specs.Reading.{TellsWhether}
 use Rattle.rls_check.specs.Forms.{Follows, FollowerOf}
 use Rattle.rls_check.proofs.FormLemmas.{follower_means, no_follower, line_refused}
 use Rattle.rls_check.proofs.form.Form.following.Goals as goal

@@ -1,6 +1,6 @@
 use Rattle.std.proofs.Common.{◌≡◌, sym, ◌∙◌, subst}
-use Rattle.rls_audit.specs.Reading.{MeansLine}
-use Rattle.rls_audit.specs.declared.lines.Line.TheVariants.{Txn}
+use Rattle.rls_audit.specs.rls_audit_lines.specs.Reading.{MeansLine}
+use Rattle.rls_audit.specs.rls_audit_lines.specs.declared.lines.Line.TheVariants.{Txn}
 use Rattle.rls_check.specs.KeepingLaws.{kept_there}
 use Rattle.rls_check.proofs.StoredLemmas.{keeps_told}
 use Rattle.rls_check.proofs.stored.Stored.new.Goals as goal

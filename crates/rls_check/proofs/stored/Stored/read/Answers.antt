@@ -1,6 +1,6 @@
 use Rattle.std.proofs.Common.{◌≡◌, ◌∙◌, subst}
-use Rattle.rls_audit.specs.Reading.{MeansLine}
-use Rattle.rls_audit.specs.declared.lines.Line.TheVariants.{Txn}
+use Rattle.rls_audit.specs.rls_audit_lines.specs.Reading.{MeansLine}
+use Rattle.rls_audit.specs.rls_audit_lines.specs.declared.lines.Line.TheVariants.{Txn}
 use Rattle.rls_check.proofs.StoredLemmas.{told_one}
 use Rattle.rls_check.proofs.stored.Stored.read.Goals as goal
 

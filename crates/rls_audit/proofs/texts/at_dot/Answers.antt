@@ -1,6 +1,0 @@
-use Rattle.std.proofs.Common.{arith}
-use Rattle.rls_audit.proofs.CuttingLemmas.{cut_is}
-use Rattle.rls_audit.proofs.texts.at_dot.Goals as goal
-
-pub returns : goal.returns
-returns c = cut_is 46 c.args.text.now c.split_once.result c.split_once.ensures.cases (omega arith)

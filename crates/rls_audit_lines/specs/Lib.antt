@@ -1,0 +1,16 @@
+pub mod Unshown
+pub mod NamesFound
+pub mod NameCodecLaws
+pub mod NameCodecs
+pub mod WordCodecs
+pub mod Texts
+pub mod TextLaws
+pub mod ValueCodecs
+pub mod RefusalCodecs
+pub mod AnswerCodecs
+pub mod ContentCodecs
+pub mod ChangeCodecs
+pub mod LineCodecs
+pub mod Asked
+pub mod Reading
+pub use Rattle.rls_text

@@ -1,0 +1,8 @@
+use Rattle.std.proofs.Common.{◌∙◌, ap₂}
+use Rattle.clap.specs.Words.{with_rule}
+use Rattle.rls_command_line.proofs.dump_line.dump_command.Goals as goal
+
+pub returns-clause-app : goal.returns-clause-app
+returns-clause-app c =
+    c.in_ok-command-2.ensures.shape c.after.ensures.local
+    ∙ ap₂ with_rule (c.in_ok-command.ensures.shape c.audit.ensures.local ∙ ap₂ with_rule c.named-command.ensures.app c.audit.ensures.rule) c.after.ensures.rule
