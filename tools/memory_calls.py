@@ -75,7 +75,7 @@ WHOLE = {
     "run_script": "read_script run_script_telling write_answer",
     "run_threads": "Notes::join Plan::into_parts read_plan run_threads_telling",
     "request_of": "", "write_report": "", "findings": "Finding::line Named::follow Named::opening have_same_contents rebuilding_script",
-    "Audit::list": "", "Listing::next": "", "write_numbered": "wheres_of",
+    "Audit::graph": "", "Audit::list": "", "Audit::placed": "", "Listing::next": "", "Why::long_lines": "", "write_numbered": "wheres_of",
 }
 
 

@@ -96,7 +96,7 @@ impl Scenario for Asking {
         Ok(match self.ask {
             Ask::Check => Given::Finding(self.audit.check(alloc)?),
             Ask::Walk => Given::Walk(self.has_walk(alloc)?),
-            Ask::Explain(txn, row) => Given::Why(self.audit.explain(alloc, txn, 1, row)?),
+            Ask::Explain(txn, row) => Given::Why(self.audit.explain(alloc, txn, 1, row, false)?),
         })
     }
 
@@ -140,7 +140,7 @@ impl Telling {
         text: &'static str,
     ) -> Result<Telling, Refusal> {
         let audit = audit(alloc)?;
-        let why = audit.explain(alloc, txn, 1, row);
+        let why = audit.explain(alloc, txn, 1, row, false);
         drop(audit);
         match why? {
             Some(why) => Ok(Telling { why, text }),

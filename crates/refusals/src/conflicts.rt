@@ -103,7 +103,8 @@ fn post(
 ) -> Result<(), Refusal> {
     let delta = changes_of(outcome)?;
     if conflicts.is_running(txn) {
-        conflicts.post(alloc, txn, &outcome.footprint, delta, MANY)
+        let footprint = outcome.footprint.copy(alloc)?;
+        conflicts.post(alloc, txn, footprint, delta, MANY)
     } else {
         Err(Refusal::Foreign)
     }

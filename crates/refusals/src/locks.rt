@@ -47,22 +47,25 @@ enum Ask {
     /// How many objects two changes write, and cover.
     Written,
     Covered,
+    /// The objects of a transaction that noted them in two steps, for its record.
+    Share,
     /// Room for the holder of keys, in a table without notes.
     MakeRoom,
 }
 
 /// Each call, and the number that is expected.
-const ASKS: [(&str, Ask, usize); 7] = [
+const ASKS: [(&str, Ask, usize); 8] = [
     ("Sireads::note", Ask::Note, 2),
     ("Sireads::holders", Ask::Holders, 2),
     ("Sireads::promote", Ask::PromoteAll, 0),
     ("promote", Ask::Promote, 1),
     ("written", Ask::Written, 4),
     ("covered", Ask::Covered, 5),
+    ("Sireads::share_noted", Ask::Share, 2),
     ("LockTable::make_room", Ask::MakeRoom, 0),
 ];
 
-/// Locks of two transactions, one of which has committed.
+/// Locks of two transactions, one of which has committed, and the other has noted its keys in two steps.
 fn locks_of_two(alloc: Global) -> Result<Sireads, Refusal> {
     let mut locks = Sireads::new(alloc);
     let came = lock_two(&mut locks, alloc);
@@ -71,7 +74,8 @@ fn locks_of_two(alloc: Global) -> Result<Sireads, Refusal> {
 
 fn lock_two(locks: &mut Sireads, alloc: Global) -> Result<(), Refusal> {
     note(locks, alloc, 7, &[1, 3])?;
-    note(locks, alloc, 8, &[1, 2])?;
+    note(locks, alloc, 8, &[1])?;
+    note(locks, alloc, 8, &[2])?;
     locks.committed(7, 3);
     Ok(())
 }
@@ -79,9 +83,8 @@ fn lock_two(locks: &mut Sireads, alloc: Global) -> Result<(), Refusal> {
 /// The transaction has read the keys of these numbers.
 fn note(locks: &mut Sireads, alloc: Global, txn: u64, numbers: &[i64]) -> Result<(), Refusal> {
     let keys = keys(alloc, numbers)?;
-    let noted = locks.note(alloc, txn, &keys, MANY);
-    drop(keys);
-    Ok(noted?)
+    locks.note(alloc, txn, keys, MANY)?;
+    Ok(())
 }
 
 /// The changes of two rows.
@@ -149,6 +152,14 @@ impl Locks {
             [] => Err(Refusal::Foreign),
         }
     }
+
+    /// How many objects the record of the transaction shares that noted them in two steps.
+    fn shared(&self, alloc: Global) -> Result<usize, Refusal> {
+        let noted = self.locks.share_noted(alloc, 8)?;
+        let count = noted.get().len();
+        drop(noted);
+        Ok(count)
+    }
 }
 
 impl Scenario for Locks {
@@ -156,12 +167,16 @@ impl Scenario for Locks {
 
     fn call(&mut self, alloc: Global) -> Result<usize, Refusal> {
         match self.ask {
-            Ask::Note => self.locks.note(alloc, 9, &self.asked.keys, MANY)?,
+            Ask::Note => {
+                let keys = self.asked.keys.copy(alloc)?;
+                self.locks.note(alloc, 9, keys, MANY)?;
+            }
             Ask::Holders => return self.holders(alloc),
             Ask::PromoteAll => self.locks.promote(alloc, 0)?,
             Ask::Promote => return Ok(promote(alloc, &self.asked.keys, 1)?.len()),
             Ask::Written => return Ok(written(alloc, self.asked.changes.as_slice())?.len()),
             Ask::Covered => return Ok(covered(alloc, self.asked.changes.as_slice())?.len()),
+            Ask::Share => return self.shared(alloc),
             Ask::MakeRoom => {
                 self.table.make_room(alloc, 7, &self.asked.keys)?;
                 return Ok(self.table.held(&self.asked.second).len());

@@ -21,3 +21,9 @@ pub mod WalkingLemmas
 pub mod WalkedLemmas
 pub mod ShownObjectLemmas
 pub mod ListingLemmas
+pub mod LongPartLemmas
+pub mod GraphWorkLemmas
+pub mod GraphSetLemmas
+pub mod GraphEdgeLemmas
+pub mod GraphDrawnLemmas
+pub mod GraphCommonLemmas

@@ -18,7 +18,7 @@ use Rattle.rls_check.specs.declared.walking.Turn.{Turn}
 use Rattle.rls_check.specs.declared.walking.Walk.{Walk}
 use Rattle.rls_check.specs.Audited.{nobody, transaction_at, asked_of}
 use Rattle.rls_check.specs.Checking.{ctx_of, state_behind, IsAnswer, IsPlaced, IsNoOrder}
-use Rattle.rls_check.specs.Walking.{Standing, standing_of, standings_alone, standings_along, IsTurn, IsNext, left, left_alone, state_to_come, IsWalk}
+use Rattle.rls_check.specs.Walking.{Standing, standing_of, standings_alone, standings_along, IsTurn, IsNext, left, left_alone, state_to_come, state_left, IsWalk}
 
 -- ---- the transaction that runs
 
@@ -121,10 +121,13 @@ begun_nobody before after place end within is over transactions places begun run
 
 -- ---- the beginning
 
-pub walk_begun : (ts : List Transaction) (numbers : List ℕ) (walk : Walk) → IsPlaced ts numbers walk.places.items → walk.transactions.now ≡ ts → walk.begun ≡ 0 → walk.running.answers ≡ [] → walk.running.state ≡ opening
-    → IsWalk ts numbers (Some walk)
-walk_begun ts numbers walk placed transactions begun answers state =
-    (walk.places.items, placed, ended walk (subst (λ (xs : List Answer). length xs ≤ walk.running.given) (sym answers) (omega arith)) ∙ (λ i. standings_along (transactions i) (state i) (drop (begun i) walk.places.items)), state)
+pub walk_begun : (ts : List Transaction) (places : List ℕ) (walk : Walk) → walk.places.items ≡ places → walk.transactions.now ≡ ts → walk.begun ≡ 0 → walk.running.answers ≡ [] → walk.running.state ≡ opening
+    → left walk ≡ standings_along ts opening places
+walk_begun ts places walk along transactions begun answers state =
+    ended walk (subst (λ (xs : List Answer). length xs ≤ walk.running.given) (sym answers) (omega arith)) ∙ (λ i. standings_along (transactions i) (state i) (drop (begun i) (along i)))
+
+pub walk_found : (ts : List Transaction) (numbers places : List ℕ) (walk : Walk) → IsPlaced ts numbers places → left walk ≡ standings_along ts opening places → state_left walk ≡ opening → IsWalk ts numbers (Some walk)
+walk_found ts numbers places walk placed along state = (places, placed, along, state)
 
 -- a next one stays so
 pub next_of_same : (r : Result (Option Turn) AllocError) (xs ys more : List Standing) → xs ≡ ys → IfOk r (λ found. IfSome found (λ turn. IsNext xs turn more)) → IfOk r (λ found. IfSome found (λ turn. IsNext ys turn more))

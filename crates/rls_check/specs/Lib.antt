@@ -13,6 +13,15 @@ pub mod ShownObjects
 pub mod ShownTexts
 pub mod ShownAudits
 pub mod Listing
+pub mod Placed
+pub mod LongParts
+pub mod LongTexts
+pub mod GraphHistory
+pub mod GraphEdges
+pub mod GraphLabels
+pub mod GraphTexts
+pub mod Graphs
+pub mod GraphSteps
 pub mod Forms
 pub mod Keeping
 pub mod KeepingLaws

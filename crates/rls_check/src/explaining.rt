@@ -6,7 +6,7 @@ ghost use Rattle.rls_catalog.specs.Changed.{opening};
 ghost use Rattle.rls_audit.specs.rls_core.specs.Alone.{state_alone};
 ghost use Rattle.rls_check.specs.Audited.{asked_of};
 ghost use Rattle.rls_check.specs.Checking.{ctx_of, state_behind};
-ghost use Rattle.rls_check.specs.Explaining.{Explains, ExplainsBehind, IsExplained, SaysOf, ctx_alone, met};
+ghost use Rattle.rls_check.specs.Explaining.{Explains, ExplainsBehind, IsExplained, SaysOf, ctx_alone, met, wanted_of as spec_wanted_of};
 
 use crate::alone::Alone;
 use crate::audit::Audit;
@@ -14,7 +14,7 @@ use crate::ordering::{places_of, transaction_at};
 use crate::stored::Stored;
 use crate::transaction::{Answer, Transaction};
 use rls_audit::rls_rows::State;
-use rls_explain::{Explanation, explain_row};
+use rls_explain::{Explanation, Wanted, explain_row};
 use rls_statement::Statement;
 use rls_value::RowId;
 use rls_value::shared::Share;
@@ -29,6 +29,8 @@ pub struct Why {
     pub statement: Share<Statement>,
     /// The row that was asked for.
     pub row: Option<RowId>,
+    /// Whether decisions are told at length.
+    pub long: bool,
     pub explanation: Explanation,
 }
 
@@ -43,8 +45,9 @@ impl Audit {
         txn: u64,
         statement: u64,
         row: Option<RowId>,
+        long: bool,
     ) -> Result<Option<Why>, AllocError>
-        ensures { IfOk result (IsExplained self.now.transactions self.now.order txn statement row) }
+        ensures { IfOk result (IsExplained self.now.transactions self.now.order txn statement row long) }
     {
         let transactions = self.transactions.as_slice();
         match places_of(alloc, transactions, self.order.as_slice())? {
@@ -55,6 +58,7 @@ impl Audit {
                 txn,
                 statement,
                 row,
+                long,
             ),
             None => Ok(None),
         }
@@ -70,16 +74,17 @@ fn explain_along(
     txn: u64,
     number: u64,
     row: Option<RowId>,
+    long: bool,
 ) -> Result<Option<Why>, AllocError>
     requires { All (λ place. place < length transactions.now) places.now }
-    ensures { IfOk result (SaysOf (met transactions.now opening places.now txn) number row) }
+    ensures { IfOk result (SaysOf (met transactions.now opening places.now txn) number row long) }
 {
     let mut state = State::opening(alloc)?;
     for place in places {
         let stored = transaction_at(transactions, *place);
         let transaction = stored.read(alloc)?;
         if stored.txn() == txn {
-            return explain_in(alloc, &state, &transaction, number, row);
+            return explain_in(alloc, &state, &transaction, number, row, long);
         }
         state = state_behind(alloc, &state, &transaction)?;
     }
@@ -127,13 +132,14 @@ fn explain_in(
     transaction: &Transaction,
     number: u64,
     row: Option<RowId>,
+    long: bool,
 ) -> Result<Option<Why>, AllocError>
-    ensures { IfOk result (SaysOf (Some (transaction.now, state.now)) number row) }
+    ensures { IfOk result (SaysOf (Some (transaction.now, state.now)) number row long) }
 {
     if number == 0 || number > transaction.answers.len() as u64 {
         return Ok(None);
     }
-    let (statement, explanation) = explain_at(alloc, state, transaction, number - 1, row)?;
+    let (statement, explanation) = explain_at(alloc, state, transaction, number - 1, row, long)?;
     if is_silent(&row, &explanation) {
         drop(statement);
         drop(explanation);
@@ -144,8 +150,25 @@ fn explain_in(
         number,
         statement,
         row,
+        long,
         explanation,
     }))
+}
+
+/// The decisions that are explained: at length those on the row or all, else those on the row.
+fn wanted_of(row: Option<RowId>, long: bool) -> Option<Wanted>
+    ensures { result ≡ spec_wanted_of row long }
+{
+    if long {
+        return Some(Wanted { row, long: true });
+    }
+    match row {
+        Some(id) => Some(Wanted {
+            row: Some(id),
+            long: false,
+        }),
+        None => None,
+    }
 }
 
 /// Whether a row is asked for of which nothing is said.
@@ -166,15 +189,16 @@ fn explain_at(
     transaction: &Transaction,
     behind: u64,
     row: Option<RowId>,
+    long: bool,
 ) -> Result<(Share<Statement>, Explanation), AllocError>
     requires { behind < length transaction.now.answers }
     ensures statement { IfOk result (λ both. slice_get (asked_of transaction.now.answers) behind ≡ Some both.0) }
-    ensures explains { IfOk result (λ both. ExplainsBehind transaction.now state.now (asked_of (take behind transaction.now.answers)) both.0 row both.1) }
+    ensures explains { IfOk result (λ both. ExplainsBehind transaction.now state.now (asked_of (take behind transaction.now.answers)) both.0 (spec_wanted_of row long) both.1) }
 {
     let answers = transaction.answers.as_slice();
     let alone = alone_behind(alloc, state, transaction, &answers[..behind as usize])?;
     let statement = answer_at(answers, behind as usize).statement.copy()?;
-    match explain_next(alloc, &alone, statement.get(), row) {
+    match explain_next(alloc, &alone, statement.get(), row, long) {
         Ok(explanation) => Ok((statement, explanation)),
         Err(refused) => {
             drop(statement);
@@ -218,9 +242,11 @@ fn explain_next(
     alone: &Alone,
     statement: &Statement,
     row: Option<RowId>,
+    long: bool,
 ) -> Result<Explanation, AllocError>
-    ensures { IfOk result (Explains alone.now.state alone.now.ctx statement.now row) }
+    ensures { IfOk result (Explains alone.now.state alone.now.ctx statement.now (spec_wanted_of row long)) }
 {
+    let wanted = wanted_of(row, long);
     let mut source = alone.state.view();
-    explain_row(alloc, &mut source, &alone.ctx, statement, row)
+    explain_row(alloc, &mut source, &alone.ctx, statement, wanted)
 }

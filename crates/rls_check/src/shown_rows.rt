@@ -2,14 +2,13 @@
 
 ghost use Rattle.std.specs.Prelude.{◌≡◌, ◌++◌, [], codes, string_bytes, IfOk, OnOk};
 ghost use Rattle.rls_check.specs.ShownRows as spec;
-ghost use Rattle.rls_explain.specs.Texts.{truth_word as spec_truth_word};
 
 use rls_audit::rls_rows::State;
 use rls_catalog::Verdict;
 use rls_explain::rls_guard::rls_source::RowSource;
-use rls_explain::{Reason, RowOutcome, RowWord};
+use rls_explain::{Reason, RowOutcome, RowWord, truth_word};
 use rls_expr::Column;
-use rls_value::{Kind, Row, Truth, Value};
+use rls_value::{Kind, Row, Value};
 use std::alloc::{AllocError, Global};
 
 /// The line, with the columns that the table has in the state.
@@ -35,7 +34,11 @@ fn row_line(alloc: Global, columns: &[Column], one: &RowOutcome) -> Result<Strin
     format!(in alloc; "  {word} {table} {id} {values}{changed}{reason}")
 }
 
-fn values_text(alloc: Global, columns: &[Column], row: &Row) -> Result<String, AllocError>
+pub(crate) fn values_text(
+    alloc: Global,
+    columns: &[Column],
+    row: &Row,
+) -> Result<String, AllocError>
     ensures { IfOk result (λ text. string_bytes text ≡ spec.values_text columns.now row.now) }
 {
     let mut pairs = String::new(alloc);
@@ -145,16 +148,6 @@ fn denial_text(alloc: Global, kind: Kind, verdict: &Verdict) -> Result<String, A
         Verdict::NoPermissive | Verdict::Exempt | Verdict::By(_) => {
             format!(in alloc; "{kind}: no permissive policy passes")
         }
-    }
-}
-
-fn truth_word(truth: Truth) -> &'static str
-    ensures { result.now ≡ spec_truth_word truth }
-{
-    match truth {
-        Truth::True => "true",
-        Truth::False => "false",
-        Truth::Unknown => "null",
     }
 }
 

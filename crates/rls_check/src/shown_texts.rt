@@ -181,7 +181,7 @@ fn those_wanted(
 }
 
 /// The table of a statement on rows.
-fn target_of(statement: &Statement) -> Option<&Name>
+pub(crate) fn target_of(statement: &Statement) -> Option<&Name>
     ensures { option_map (λ name. name.now) result ≡ spec.target_of statement.now }
 {
     match statement {
@@ -414,7 +414,7 @@ fn push_count(
     push_escaped_line(text, line.as_str())
 }
 
-fn rows_word(count: u64) -> &'static str
+pub(crate) fn rows_word(count: u64) -> &'static str
     ensures { result.now ≡ spec.rows_word count }
 {
     if count == 1 { " row" } else { " rows" }

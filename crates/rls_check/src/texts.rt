@@ -31,7 +31,7 @@ impl Why {
     }
 
     #[tactic(auto, using(crate::proofs::WhyTextLemmas::line_of_two))]
-    fn push_head(&self, alloc: Global, lines: &mut String) -> Result<(), AllocError>
+    pub(crate) fn push_head(&self, alloc: Global, lines: &mut String) -> Result<(), AllocError>
         ensures { OnOk result (string_bytes lines.new ≡ string_bytes lines.old ++ ended_line (head_text self.now)) }
     {
         let place = self.place(alloc)?;
@@ -61,7 +61,7 @@ impl Why {
     }
 }
 
-fn push_reply(
+pub(crate) fn push_reply(
     alloc: Global,
     lines: &mut String,
     tag: Tag,
@@ -132,7 +132,11 @@ fn push_decisions(
     Ok(())
 }
 
-fn push_decision(alloc: Global, lines: &mut String, decision: &Decision) -> Result<(), AllocError>
+pub(crate) fn push_decision(
+    alloc: Global,
+    lines: &mut String,
+    decision: &Decision,
+) -> Result<(), AllocError>
     ensures { OnOk result (string_bytes lines.new ≡ string_bytes lines.old ++ ended_line (decision_text decision.now)) }
 {
     let text = DecisionText { decision };

@@ -8,7 +8,7 @@ ghost use Rattle.rls_audit.specs.rls_access.specs.Transactions.{ctx_after as con
 ghost use Rattle.rls_audit.specs.rls_core.specs.Theory.{read_by};
 ghost use Rattle.rls_explain.specs.rls_meaning.specs.Meaning.{effect_of};
 ghost use Rattle.rls_check.specs.Checking.{ctx_of, state_behind, IsPlaced};
-ghost use Rattle.rls_check.specs.Walking.{IsNext, IsWalk, left, left_alone, standings_alone, state_left, state_to_come};
+ghost use Rattle.rls_check.specs.Walking.{IsNext, IsWalk, left, left_alone, standings_alone, standings_along, state_left, state_to_come};
 
 use crate::alone::{ctx_after, first_ctx, state_after};
 use crate::audit::Audit;
@@ -77,7 +77,7 @@ impl Audit {
 }
 
 /// The same along these places.
-#[tactic(auto, using(crate::proofs::WalkingLemmas::walk_begun))]
+#[tactic(auto, using(crate::proofs::WalkingLemmas::walk_found))]
 fn walk_along<'a>(
     alloc: Global,
     transactions: &'a [Stored],
@@ -87,13 +87,29 @@ fn walk_along<'a>(
     requires { IsPlaced transactions.now order.now places.items }
     ensures { IfOk result (IsWalk transactions.now order.now) }
 {
+    match walk_from(alloc, transactions, places) {
+        Ok(walk) => Ok(Some(walk)),
+        Err(refused) => Err(refused),
+    }
+}
+
+/// All statements of the transactions at these places, which run alone from the opening state.
+#[tactic(auto, using(crate::proofs::WalkingLemmas::walk_begun))]
+pub(crate) fn walk_from<'a>(
+    alloc: Global,
+    transactions: &'a [Stored],
+    places: Vec<usize>,
+) -> Result<Walk<'a>, AllocError>
+    ensures left { IfOk result (λ walk. left walk ≡ standings_along transactions.now opening places.items) }
+    ensures state { IfOk result (λ walk. state_left walk ≡ opening) }
+{
     match Running::nothing(alloc) {
-        Ok(running) => Ok(Some(Walk {
+        Ok(running) => Ok(Walk {
             transactions,
             places,
             begun: 0,
             running,
-        })),
+        }),
         Err(refused) => {
             drop(places);
             Err(refused)

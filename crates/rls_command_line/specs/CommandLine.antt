@@ -14,6 +14,10 @@ use Rattle.rls_command_line.specs.declared.words.Checks.{Checks}
 use Rattle.rls_command_line.specs.declared.words.Explain.{Explain}
 use Rattle.rls_command_line.specs.declared.words.Shown.{Shown}
 use Rattle.rls_command_line.specs.declared.words.AuditState.{AuditState}
+use Rattle.rls_command_line.specs.declared.words.Graphed.{Graphed}
+use Rattle.rls_command_line.specs.declared.words.GraphWanted.{GraphWanted}
+use Rattle.rls_command_line.specs.declared.words.Language.{Language}
+use Rattle.rls_command_line.specs.declared.words.Language.TheVariants as l
 use Rattle.rls_command_line.specs.declared.words.Tests.{Tests}
 use Rattle.rls_command_line.specs.declared.words.Wanted.{Wanted}
 use Rattle.rls_command_line.specs.declared.command_line.Mistake.{Mistake}
@@ -70,16 +74,16 @@ audits_argument = record (needed (codes "AUDIT")) { action = Some Append }
 abbrev pub quiet_flag : Rule
 quiet_flag = record (new_rule (codes "quiet")) { long = Some (codes "quiet"); action = Some SetTrue }
 
+-- --long
+abbrev pub long_flag : Rule
+long_flag = record (new_rule (codes "long")) { long = Some (codes "long"); action = Some SetTrue }
+
 -- the name, and its words
 abbrev pub run_line : App
 run_line = with_rule (with_rule (with_rule (with_rule (with_rule (with_rule (with_rule (new_app (codes "run")) (needed (codes "FILE"))) threads_flag) audit_option) terse_flag) hints_flag) stop_flag) numbers_flag
 
 abbrev pub test_line : App
 test_line = with_rule (with_rule (new_app (codes "test")) transcripts_argument) write_flag
-
--- --long
-abbrev pub long_flag : Rule
-long_flag = record (new_rule (codes "long")) { long = Some (codes "long"); action = Some SetTrue }
 
 abbrev pub order_line : App
 order_line = with_rule (with_rule (new_app (codes "order")) (needed (codes "AUDIT"))) long_flag
@@ -88,7 +92,7 @@ abbrev pub check_line : App
 check_line = with_rule (with_rule (new_app (codes "check")) audits_argument) quiet_flag
 
 abbrev pub explain_line : App
-explain_line = with_rule (with_rule (with_rule (with_rule (new_app (codes "explain")) (needed (codes "AUDIT"))) (needed (codes "TXN"))) (needed (codes "STATEMENT"))) (new_rule (codes "ROW"))
+explain_line = with_rule (with_rule (with_rule (with_rule (with_rule (new_app (codes "explain")) (needed (codes "AUDIT"))) (needed (codes "TXN"))) (needed (codes "STATEMENT"))) (new_rule (codes "ROW"))) long_flag
 
 -- an option with a value, which may be repeated
 abbrev pub many_option : Text → Rule
@@ -115,6 +119,17 @@ lint_line = with_rule (with_rule (new_app (codes "lint")) (needed (codes "AUDIT"
 abbrev pub dump_line : App
 dump_line = with_rule (with_rule (new_app (codes "dump")) (needed (codes "AUDIT"))) after_option
 
+-- --mermaid
+abbrev pub mermaid_flag : Rule
+mermaid_flag = record (new_rule (codes "mermaid")) { long = Some (codes "mermaid"); action = Some SetTrue }
+
+-- --dot
+abbrev pub dot_flag : Rule
+dot_flag = record (new_rule (codes "dot")) { long = Some (codes "dot"); action = Some SetTrue }
+
+abbrev pub graph_line : App
+graph_line = with_rule (with_rule (with_rule (with_rule (new_app (codes "graph")) (needed (codes "AUDIT"))) mermaid_flag) dot_flag) all_flag
+
 abbrev pub migrate_line : App
 migrate_line = with_rule (with_rule (new_app (codes "migrate")) (needed (codes "AUDIT"))) (needed (codes "OUT"))
 
@@ -126,7 +141,7 @@ abbrev pub program_line : App
 program_line = on_top (λ (s : Shape). record s { has_version = true; subcommand_required = true }) (new_app (codes "rlsdb"))
 
 abbrev pub command_line : App
-command_line = with_subcommand (with_subcommand (with_subcommand (with_subcommand (with_subcommand (with_subcommand (with_subcommand (with_subcommand (with_subcommand (with_subcommand program_line run_line.top) test_line.top) order_line.top) check_line.top) explain_line.top) shown_line.top) lint_line.top) dump_line.top) migrate_line.top) parse_line.top
+command_line = with_subcommand (with_subcommand (with_subcommand (with_subcommand (with_subcommand (with_subcommand (with_subcommand (with_subcommand (with_subcommand (with_subcommand (with_subcommand program_line run_line.top) test_line.top) order_line.top) check_line.top) explain_line.top) shown_line.top) lint_line.top) dump_line.top) graph_line.top) migrate_line.top) parse_line.top
 
 -- ---- what words ask for
 
@@ -169,6 +184,7 @@ pub record IsExplain (rows : List Row) (it : Explain) : Type 0 where
   pub txn : IsNumber (codes "TXN") rows it.txn
   pub statement : IsNumber (codes "STATEMENT") rows it.statement
   pub row : IsRow rows it.row
+  pub long : IsFlag (codes "long") rows it.long
 
 -- the text is a name, letters of either case, and no reserved word; this is the name
 abbrev pub IsNameOf : Text → List ℕ → Type 0
@@ -208,6 +224,22 @@ pub record IsAuditState (rows : List Row) (it : AuditState) : Type 0 where
   pub audit : first_of (codes "AUDIT") rows ≡ Some it.audit.now
   pub after : IsAfter rows it.after
 
+-- a picture in one of the languages, or lines
+abbrev pub IsLanguage : List Row → Option Language → Type 0
+IsLanguage rows None = IsFlag (codes "mermaid") rows false × IsFlag (codes "dot") rows false
+IsLanguage rows (Some l.Mermaid) = IsFlag (codes "mermaid") rows true × IsFlag (codes "dot") rows false
+IsLanguage rows (Some l.Dot) = IsFlag (codes "mermaid") rows false × IsFlag (codes "dot") rows true
+
+-- how a graph is written
+pub record IsGraphWanted (rows : List Row) (it : GraphWanted) : Type 0 where
+  pub language : IsLanguage rows it.language
+  pub all : IsFlag (codes "all") rows it.all
+
+-- an audit, and how its graph is written
+pub record IsGraph (rows : List Row) (it : Graphed) : Type 0 where
+  pub audit : first_of (codes "AUDIT") rows ≡ Some it.audit.now
+  pub wanted : IsGraphWanted rows it.wanted
+
 -- the command of that name, with these words, asks for it
 abbrev pub AsksFor : Text → List Row → Request → Type 0
 AsksFor name rows (q.Run it) = (name ≡ codes "run") × IsRun rows it × IsFlag (codes "stop") rows false × IsFlag (codes "numbers") rows false
@@ -221,6 +253,7 @@ AsksFor name rows (q.Explain it) = (name ≡ codes "explain") × IsExplain rows 
 AsksFor name rows (q.Shown it) = (name ≡ codes "shown") × IsShownLine rows it
 AsksFor name rows (q.Lint it) = (name ≡ codes "lint") × IsAuditState rows it
 AsksFor name rows (q.Dump it) = (name ≡ codes "dump") × IsAuditState rows it
+AsksFor name rows (q.Graph it) = (name ≡ codes "graph") × IsGraph rows it
 AsksFor name rows (q.Parse file) = (name ≡ codes "parse") × (first_of (codes "FILE") rows ≡ Some file.now)
 AsksFor name rows (q.Migrate audit out) = (name ≡ codes "migrate") × (first_of (codes "AUDIT") rows ≡ Some audit.now) × (first_of (codes "OUT") rows ≡ Some out.now)
 

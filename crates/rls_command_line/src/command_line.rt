@@ -7,6 +7,7 @@ ghost use Rattle.rls_command_line.specs.declared.command_line.Mistake.TheVariant
 ghost use Rattle.rls_command_line.specs.CommandLine.{Asks, AsksFor, IsFlag, IsMistaken, IsNumber, IsOfMemory, IsOwn, IsRow, audit_option, audits_argument, check_line, command_line, explain_line, long_flag, migrate_line, needed, numbers_flag, hints_flag, order_line, parse_line, program_line, quiet_flag, run_line, stop_flag, terse_flag, test_line, threads_flag, transcripts_argument, write_flag};
 
 use crate::dump_line::{dump_command, dump_of};
+use crate::graph_line::{graph_command, graph_of};
 use crate::lint_line::{lint_command, lint_of};
 use crate::shown_line::{shown_command, shown_of};
 use crate::words::{Checks, Explain, Request, ScriptFile, Tests, number_of, row_of};
@@ -26,14 +27,15 @@ Examples:
     rlsdb shown AUDIT --role ann
     rlsdb lint AUDIT
     rlsdb dump AUDIT --after 12
+    rlsdb graph AUDIT --mermaid
 
 Exit status:
     0  done, even if statements were refused
     1  a file cannot be read or written, or memory ran out
     2  usage
-    3  `check` says no, a test fails, an ERROR ends `run --stop`, a line of an audit is bad, there is no such decision, `shown`
-       or `order --long` finds a fault, `lint` finds a mistake or a fault, `dump` finds a fault or no script, or `parse` finds a
-       line that is no statement";
+    3  `check` says no, a test fails, an ERROR ends `run --stop`, a line of an audit is bad, there is no such decision, `shown`,
+       `graph` or `order --long` finds a fault, `lint` finds a mistake or a fault, `dump` finds a fault or no script, or `parse`
+       finds a line that is no statement";
 
 const AFTER_RUN: &str = "\
 Each line of FILE is a command: `LABEL: \\connect ROLE` or `LABEL: STATEMENT`. The superuser `postgres` exists from the start:
@@ -79,7 +81,8 @@ Example: rlsdb check AUDIT";
 
 const AFTER_EXPLAIN: &str = "\
 TXN is the number of a transaction in AUDIT, STATEMENT the number of its statement, counted from 1. Without ROW it writes all
-decisions of the statement; with ROW only those on this row, each with the value of every policy that applies.
+decisions of the statement; with ROW only those on this row, each with the value of every policy that applies. With --long
+each part of a condition is written with its value, which rows subqueries see, and why a policy is not asked.
 
 Example: rlsdb explain AUDIT 16 1 10.2";
 
@@ -163,6 +166,7 @@ fn request_in<'a>(
         "shown" => shown_of(alloc, words),
         "lint" => lint_of(words),
         "dump" => dump_of(words),
+        "graph" => graph_of(words),
         "migrate" => migrate_of(words),
         "parse" => Ok(Request::Parse(value(words, "FILE")?)),
         _ => Err(Mistake::Nothing),
@@ -244,6 +248,7 @@ fn explain_of<'a>(words: &ArgMatches<'a>) -> Result<Request<'a>, Mistake<'a>>
         txn: number(words, "TXN", "<TXN>")?,
         statement: number(words, "STATEMENT", "<STATEMENT>")?,
         row: row(words)?,
+        long: flag(words, "long"),
     }))
 }
 
@@ -318,6 +323,7 @@ fn command<'a>(alloc: Global) -> Result<Command<'a>, AllocError>
     let program = program.subcommand(shown_command(alloc)?)?;
     let program = program.subcommand(lint_command(alloc)?)?;
     let program = program.subcommand(dump_command(alloc)?)?;
+    let program = program.subcommand(graph_command(alloc)?)?;
     let program = program.subcommand(migrate_command(alloc)?)?;
     let program = program.subcommand(parse_command(alloc)?)?;
     Ok(program)
@@ -544,6 +550,7 @@ fn explain_command<'a>(alloc: Global) -> Result<Command<'a>, AllocError>
     let command = command.arg(txn)?;
     let command = command.arg(statement)?;
     let command = command.arg(row_argument(alloc))?;
+    let command = command.arg(long_reasons(alloc))?;
     Ok(command)
 }
 
@@ -552,6 +559,16 @@ fn row_argument<'a>(alloc: Global) -> Arg<'a>
     ensures local { result.global ≡ false }
 {
     Arg::new(alloc, "ROW").help("The row, as T.N")
+}
+
+fn long_reasons<'a>(alloc: Global) -> Arg<'a>
+    ensures rule { rule_of result ≡ long_flag }
+    ensures local { result.global ≡ false }
+{
+    Arg::new(alloc, "long")
+        .long("long")
+        .action(ArgAction::SetTrue)
+        .help("With the values and the reasons, indented below its lines")
 }
 
 fn migrate_command<'a>(alloc: Global) -> Result<Command<'a>, AllocError>

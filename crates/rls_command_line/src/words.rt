@@ -31,6 +31,8 @@ pub struct Explain<'a> {
     /// Counted from 1.
     pub statement: u64,
     pub row: Option<RowId>,
+    /// With values and reasons.
+    pub long: bool,
 }
 
 /// An audit, and which of its statements and rows are asked for.
@@ -69,6 +71,30 @@ pub struct AuditState<'a> {
     pub after: Option<u64>,
 }
 
+/// An audit whose graph is asked for.
+#[derive(Clone, Copy)]
+pub struct Graphed<'a> {
+    /// Its file, or `-` for standard input.
+    pub audit: &'a str,
+    pub wanted: GraphWanted,
+}
+
+/// How the graph is to be written: as lines, or as a picture.
+#[derive(Clone, Copy)]
+pub struct GraphWanted {
+    /// The language of the picture; none for lines.
+    pub language: Option<Language>,
+    /// Whether a picture has all transactions.
+    pub all: bool,
+}
+
+/// A language of pictures.
+#[derive(Clone, Copy)]
+pub enum Language {
+    Mermaid,
+    Dot,
+}
+
 /// Transcripts to be tested.
 #[derive(Drop)]
 pub struct Tests<'a> {
@@ -104,6 +130,7 @@ pub enum Request<'a> {
     Shown(Shown<'a>),
     Lint(AuditState<'a>),
     Dump(AuditState<'a>),
+    Graph(Graphed<'a>),
     /// From the first file into the second, or, where that is `-`, to standard output.
     Migrate(&'a str, &'a str),
     /// What of this script isn't taken.

@@ -1,5 +1,5 @@
 -- What the index of writers tells of those who wrote an object first.
-use Rattle.std.specs.Prelude.{◌≡◌, refl, ℕ, zero, suc, List, [], ◌∷◌, ◌++◌, ◌<◌, ◌≤◌, Bool, true, false, not, ◌&&◌, ◌||◌, nat_eq, map, filter, drop, cond, slice_get, Option, Some, None, ◌⊎◌, MatchOption, unwrap_or}
+use Rattle.std.specs.Prelude.{◌≡◌, refl, ℕ, zero, suc, List, [], ◌∷◌, ◌++◌, ◌<◌, ◌≤◌, Bool, true, false, not, ◌&&◌, ◌||◌, nat_eq, map, filter, length, drop, cond, slice_get, Option, Some, None, ◌⊎◌, MatchOption, unwrap_or}
 use Rattle.std.specs.List.{list_any, find}
 use Rattle.std.specs.List.Sorted.{IsStrictlySortedBy}
 use Rattle.std.specs.BTreeMap.{is_at}
@@ -8,6 +8,7 @@ use Rattle.std.specs.Option.{option_map, is_some}
 use Rattle.std.specs.Ordering.{nat_cmp}
 use Rattle.std.proofs.Common.{ap, sym, subst, ◌∙◌, inl, inr, arith}
 use Rattle.std.proofs.lemmas.Bool.{true≢false, or_cases, or_left, or_right, cases_Bool, and_parts, and_from, lt-ltb, ltb-true}
+use Rattle.std.proofs.lemmas.List.{drop_all}
 use Rattle.std.proofs.lemmas.List.Folds.{list_any-append}
 use Rattle.std.proofs.lemmas.Option.{none-some}
 use Rattle.rls_value.specs.declared.object.Object.{Object}
@@ -173,6 +174,17 @@ found_running locks txn (e ∷ es) = by_tie (nat_eq txn e.0) refl (found_running
         ∙ rest
         ∙ sym (ap (λ b. option_map (λ it. running_seen locks (txn, it)) (cond b (Some e.1) (at_number txn es))) (number_at txn e.0 ∙ is))
 
+there : (b : Bool) (one it : Begun) → cond b (Some one) None ≡ Some it → b ≡ true
+there true one it is = refl
+there false one it is = absurd (none-some it is)
+
+-- the one that runs is no other
+no_other : (q : ℕ × Begun → Bool) (txn : ℕ) (running : List (ℕ × Begun)) (it : Begun) → at_number txn running ≡ Some it → length running ≡ 1
+    → list_any (λ entry. not (nat_eq txn entry.0) && q entry) running ≡ false
+no_other q txn [] it is one = refl
+no_other q txn (e ∷ []) it is one = ap (λ b. (not b && q e) || false) (sym (number_at txn e.0) ∙ there (is_at (nat_cmp txn) e.0) e.1 it is)
+no_other q txn (e ∷ f ∷ more) it is one = absurd (omega (arith, one))
+
 module _ (committed : List Committed) (running : List (ℕ × Begun)) (locks : Locks) (txn : ℕ) where
   pub running_is : (it : Begun) → at_number txn running ≡ Some it → running_at (known_by committed running locks) txn ≡ running_seen locks (txn, it)
   running_is it is = ap (λ found. unwrap_or found nobody) (found_running locks txn running ∙ ap (option_map (λ it. running_seen locks (txn, it))) is)
@@ -190,6 +202,13 @@ module _ (committed : List Committed) (running : List (ℕ × Begun)) (locks : L
       ∙ list_any-append p (filter (λ other. not (nat_eq txn other.number)) (map (running_seen locks) running)) (drop it.snap (all_committed committed))
       ∙ (λ i. (any_filter p (λ other. not (nat_eq txn other.number)) (map (running_seen locks) running) ∙ any_map (λ other. not (nat_eq txn other.number) && p other) (running_seen locks) running) i
       || (ap (list_any p) (drop_map committed_seen it.snap committed) ∙ any_map p committed_seen (drop it.snap committed)) i)
+
+  -- where no other runs, and nobody has committed since, nobody is concurrent
+  pub none_beside : (p : Transaction → Bool) (it : Begun) → at_number txn running ≡ Some it → length running ≡ 1 → it.snap ≡ length committed
+      → list_any p (concurrent_with (known_by committed running locks) txn) ≡ false
+  none_beside p it is one end =
+      any_concurrent p it is
+      ∙ (λ i. no_other (λ entry. p (running_seen locks entry)) txn running it is one i || ap (list_any (λ other. p (committed_seen other))) (drop_all it.snap committed (omega (arith, end))) i)
 
 -- ---- who wrote an object
 

@@ -33,7 +33,7 @@ impl Committed {
         ensures { result ≡ has_accessed access object.now self.now }
     {
         match access {
-            Access::Read => self.transaction.get().noted.contains(object),
+            Access::Read => self.transaction.get().noted.get().contains(object),
             Access::Write => self.covered.contains(object),
         }
     }

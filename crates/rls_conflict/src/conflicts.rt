@@ -116,13 +116,13 @@ impl Conflicts {
         &mut self,
         alloc: Global,
         txn: u64,
-        footprint: &Footprint,
+        footprint: Footprint,
         delta: &Delta,
         limit: usize,
     ) -> Result<(), Refusal>
         requires { is_running self.old txn ≡ true }
         ensures free { OnOk result (IsFree self.old txn delta.now) }
-        ensures ok { OnOk result (Becomes txn (option_map (posted limit footprint.now delta.now) (running_of self.old txn)) self.old self.new) }
+        ensures ok { OnOk result (Becomes txn (option_map (posted limit footprint delta.now) (running_of self.old txn)) self.old self.new) }
         ensures err { IfErr result (IsRefusedBy self.old txn delta.now) }
         ensures kept { OnErr result (self.new ≡ self.old) }
     {

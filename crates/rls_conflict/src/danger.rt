@@ -130,10 +130,10 @@ fn cause_of(
 ) -> Result<Option<Cause>, AllocError>
     ensures { IfOk result (IsNamed first.now covered_by_pivot.now pivot.now covered_by_last.now last.now) }
 {
-    let Some(one) = first_common(&first.noted, covered_by_pivot) else {
+    let Some(one) = first_common(first.noted.get(), covered_by_pivot) else {
         return Ok(None);
     };
-    let Some(two) = first_common(&pivot.noted, covered_by_last) else {
+    let Some(two) = first_common(pivot.noted.get(), covered_by_last) else {
         return Ok(None);
     };
     Ok(Some(Cause::Structure {

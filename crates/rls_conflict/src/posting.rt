@@ -35,7 +35,7 @@ pub(crate) fn enter(
     ensures err_noted { OnErr result ((other : ℕ) → notes_at sireads.new.notes other ≡ notes_at sireads.old.notes other) }
 {
     let nothing = Footprint::new(alloc);
-    sireads.note(alloc, txn, &nothing, 0)?;
+    sireads.note(alloc, txn, nothing, 0)?;
     match running.insert(txn, Running::new(alloc, snap)) {
         Ok(_) => Ok(()),
         Err(_) => {
@@ -52,7 +52,7 @@ pub(crate) fn take_in(
     sireads: &mut Sireads,
     writers: &mut LockTable,
     txn: u64,
-    footprint: &Footprint,
+    footprint: Footprint,
     part: Part,
     limit: usize,
 ) -> Result<(), AllocError>
@@ -60,7 +60,7 @@ pub(crate) fn take_in(
     requires covered { (object : Written) → is_among part.covered object ≡ covers_any object part.changes.items }
     ensures running { OnOk result ((other : ℕ) → at_number other running.new.entries ≡ (if nat_eq txn other then option_map (with_changes part.changes.items) (at_number txn running.old.entries) else at_number other running.old.entries)) }
     ensures size { OnOk result (length running.new.entries ≡ length running.old.entries) }
-    ensures noted { OnOk result (HasNoted txn (noted_with limit (noted_by sireads.old txn) footprint.now) sireads.old sireads.new) }
+    ensures noted { OnOk result (HasNoted txn (noted_with limit (noted_by sireads.old txn) footprint) sireads.old sireads.new) }
     ensures written { OnOk result ((object : Written) → held_at writers.new object ≡ (if is_among part.covered object then arrived (held_at writers.old object) txn else held_at writers.old object)) }
     ensures err_running { OnErr result (running.new.entries ≡ running.old.entries) }
     ensures err_noted { OnErr result (sireads.new ≡ sireads.old) }
@@ -72,6 +72,7 @@ pub(crate) fn take_in(
             Err(refused) => Err(refused),
         },
         None => {
+            drop(footprint);
             drop(part);
             Ok(())
         }

@@ -3,6 +3,7 @@
 ghost use Rattle.std.specs.Prelude.{◌≡◌, ◌≤◌, ◌<◌, length, map, slice_get, Some, IfOk, vec_capacity};
 ghost use Rattle.std.specs.List.{list_any};
 ghost use Rattle.rls_source.specs.Footprints.{is_among};
+ghost use Rattle.rls_siread.specs.Promotion.{promoted};
 ghost use Rattle.rls_conflict.specs.declared.committed.Committed.{Committed as Entry};
 ghost use Rattle.rls_conflict.specs.Transactions.{at, reads_from};
 ghost use Rattle.rls_conflict.specs.Commits.{AreReadBy, AreReadersOf};
@@ -60,10 +61,22 @@ fn promoted_transaction(
         Transaction {
             number: transaction.number,
             snap: transaction.snap,
-            noted: promote(alloc, &transaction.noted, limit)?,
+            noted: promoted_noted(alloc, transaction.noted.get(), limit)?,
             changes: transaction.changes.copy(alloc)?,
         },
     )
+}
+
+/// The objects promoted, shared.
+fn promoted_noted(
+    alloc: Global,
+    noted: &Footprint,
+    limit: usize,
+) -> Result<Share<Footprint>, AllocError>
+    ensures { IfOk result (λ kept. kept ≡ promoted limit noted.now) }
+{
+    let kept = promote(alloc, noted, limit)?;
+    Share::new(alloc, kept)
 }
 
 /// What is kept of the transactions, with the covered objects of the committed ones, and room for so many.
@@ -164,7 +177,10 @@ fn has_read(
     requires other { other < length committed.now }
     ensures { result ≡ reads_from (at transactions.now one).noted (at transactions.now other).changes }
 {
-    have_common(&transactions[one].get().noted, &committed[other].covered)
+    have_common(
+        transactions[one].get().noted.get(),
+        &committed[other].covered,
+    )
 }
 
 /// Whether one of the objects is among the others.

@@ -76,13 +76,13 @@ impl Running {
         sireads: &mut Sireads,
         writers: &mut LockTable,
         txn: u64,
-        footprint: &Footprint,
+        footprint: Footprint,
         part: Part,
         limit: usize,
     ) -> Result<(), AllocError>
         requires { (object : Written) → is_among part.covered object ≡ covers_any object part.changes.items }
         ensures changes { OnOk result (self.new ≡ with_changes part.changes.items self.old) }
-        ensures noted { OnOk result (HasNoted txn (noted_with limit (noted_by sireads.old txn) footprint.now) sireads.old sireads.new) }
+        ensures noted { OnOk result (HasNoted txn (noted_with limit (noted_by sireads.old txn) footprint) sireads.old sireads.new) }
         ensures written { OnOk result ((object : Written) → held_at writers.new object ≡ (if is_among part.covered object then arrived (held_at writers.old object) txn else held_at writers.old object)) }
         ensures err_changes { OnErr result (self.new ≡ self.old) }
         ensures err_noted { OnErr result (sireads.new ≡ sireads.old) }

@@ -4,7 +4,6 @@ ghost use Rattle.std.specs.Prelude.{◌≡◌, true, length, IfOk, OnOk, IfErr, 
 ghost use Rattle.rls_conflict.specs.Causes.{IsCauseOf, IsInNoStructure, IsBarredBy};
 ghost use Rattle.rls_conflict.specs.Commits.{IsReady};
 ghost use Rattle.rls_conflict.specs.Known.{is_running, with_commit_of};
-ghost use Rattle.rls_siread.specs.Locks.{noted_by};
 
 use crate::conflicts::Conflicts;
 use crate::danger::danger_of;
@@ -12,8 +11,7 @@ use crate::edges::{readers_of, writers_of};
 use crate::ready::Ready;
 use crate::transaction::Transaction;
 use rls_catalog::Delta;
-use rls_siread::{Sireads, covered};
-use rls_source::Footprint;
+use rls_siread::covered;
 use rls_value::{Cause, Refusal};
 use shared_map::Share;
 use std::alloc::{AllocError, Global};
@@ -52,7 +50,7 @@ impl Conflicts {
             return Err(AllocError);
         };
         self.sireads.stands();
-        let noted = copy_noted(alloc, &self.sireads, txn)?;
+        let noted = self.sireads.share_noted(alloc, txn)?;
         let covered = covered(alloc, it.changes())?;
         let committed = self.committed.as_slice();
         let read = writers_of(
@@ -60,7 +58,7 @@ impl Conflicts {
             committed,
             &self.writers,
             &self.sireads,
-            &noted,
+            noted.get(),
             it.snap(),
         )?;
         let readers = readers_of(alloc, committed, &self.sireads, &covered, it.snap())?;
@@ -80,15 +78,5 @@ impl Conflicts {
             read,
             readers,
         })
-    }
-}
-
-/// A copy of what the transaction noted.
-fn copy_noted(alloc: Global, sireads: &Sireads, txn: u64) -> Result<Footprint, AllocError>
-    ensures { IfOk result (λ noted. noted ≡ noted_by sireads.now txn) }
-{
-    match sireads.noted(txn) {
-        Some(noted) => noted.copy(alloc),
-        None => Ok(Footprint::new(alloc)),
     }
 }

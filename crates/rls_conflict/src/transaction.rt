@@ -2,6 +2,7 @@
 
 use rls_catalog::Delta;
 use rls_source::Footprint;
+use shared_map::Share;
 use std::marker::Model;
 
 /// What others can conflict with: a transaction's number, its snapshot, the objects that it noted as read, and its changes.
@@ -10,7 +11,7 @@ pub struct Transaction {
     pub number: u64,
     /// How many had committed when it began.
     pub snap: usize,
-    pub noted: Footprint,
+    pub noted: Share<Footprint>,
     pub changes: Delta,
 }
 

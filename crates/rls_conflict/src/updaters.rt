@@ -1,6 +1,6 @@
 //! Who wrote an object first.
 
-ghost use Rattle.std.specs.Prelude.{◌≡◌, ◌&&◌, nat_eq, true, false, ◌⊎◌, Some, None, MatchOption, OnOk, IfErr};
+ghost use Rattle.std.specs.Prelude.{◌≡◌, ◌&&◌, nat_eq, true, false, length, ◌⊎◌, Some, None, MatchOption, OnOk, IfErr};
 ghost use Rattle.std.specs.List.{list_any};
 ghost use Rattle.std.specs.Map.{keys_of};
 ghost use Rattle.rls_siread.specs.Index.{held_at};
@@ -31,9 +31,14 @@ impl Conflicts {
         let Some(it) = self.running.get(&txn) else {
             return Ok(());
         };
-        let objects = written(alloc, delta.as_slice())?;
         let snap = it.snap();
-        let since = &self.committed.as_slice()[snap..];
+        let committed = self.committed.as_slice();
+        // Mostly nobody is concurrent.
+        if is_alone(&self.running, committed, snap) {
+            return Ok(());
+        }
+        let objects = written(alloc, delta.as_slice())?;
+        let since = &committed[snap..];
         match first_written(
             &objects,
             &self.writers,
@@ -50,6 +55,14 @@ impl Conflicts {
             None => Ok(()),
         }
     }
+}
+
+/// Whether the transaction of the snapshot, which runs, is concurrent with none: no other runs, and nobody has committed since.
+fn is_alone(running: &BTreeMap<u64, Running>, committed: &[Committed], snap: usize) -> bool
+    ensures one { result ≡ true → length running.now.entries ≡ 1 }
+    ensures end { result ≡ true → snap ≡ length committed.now }
+{
+    running.len() == 1 && snap == committed.len()
 }
 
 /// The first of the objects that a concurrent transaction wrote, and the least number of those that wrote it.

@@ -31,7 +31,7 @@ use Rattle.rls_core.specs.Headline.{AfterEvents, AreSafe, KeysStayUnique}
 use Rattle.rls_core.specs.Headline as headline
 use Rattle.rls_core.specs.Opened.{Opened, joined, opened_on, Looks}
 use Rattle.rls_core.specs.Seen.{Seen, world_of, runs_at, newest_state, core_rules, Happens}
-use Rattle.rls_core.specs.Kept.{seen_of, IsKept, IsSame}
+use Rattle.rls_core.specs.Kept.{seen_of, IsKept, IsSame, SeesNewest}
 use Rattle.rls_core.specs.Calls.{known_with, MayCommit, IsReady, IsBarred, NotReady, IsOrderBy}
 use Rattle.rls_core.proofs.JoinedLemmas.{joined_there, is_found, found_number, runs_number, some_of, none_of}
 use Rattle.rls_core.proofs.KeptLemmas.{kept_with, kept_same, kept_committed, same_seen, newest_push}
@@ -117,6 +117,15 @@ module _ (committed : List Record) (known : Known) (opens : List (ℕ × Opened)
       let count = kept.count in
       let last : length states - 1 ≡ length committed = omega (arith, count) in
       ap (λ n. get_or states n opening) last ∙ kept.states_are (length committed) (omega arith)
+
+  -- one that began after all commits sees what its own leaves
+  pub sees_newest : (txn : ℕ) (it : Opened) → at_number txn opens ≡ Some it → SeesNewest it.view states (running_at known txn)
+  sees_newest txn it there last =
+      let count = kept.count in
+      let at_end : (running_at known txn).snap ≡ length committed = omega (arith, count, last) in
+      kept.views_are txn it there
+      ∙ ap (λ n. changed_all (state_after committed n) (running_at known txn).changes) at_end
+      ∙ ap (λ (s : State). changed_all s (running_at known txn).changes) (sym newest_is)
 
   pub newest_sound : AreSafe core_rules → AfterEvents KeysStayUnique → RowsAreSound (newest_state committed)
   newest_sound safe keys =

@@ -38,11 +38,12 @@ same_running one other is = cc
 
 pub is_work : (seen : Seen) (txn : ℕ) (asked : Statement) (o : Opened) (work : Work) → RunsOn seen txn o → (work.txn ≡ txn) × (work.statement ≡ asked)
     → work.outcome.effect ≡ effect_in o.view o.ctx asked → work.outcome.footprint ≡ footprint_of ((step o.ctx asked).in_state o.view).reads → work.outcome.role ≡ role_after o.ctx.role work.outcome.effect
-    → IsWork seen work
-is_work seen txn asked o work on its effect footprint role it is =
+    → work.view ≡ changed_all o.view (changes_of work.outcome.effect) → IsWork seen work
+is_work seen txn asked o work on its effect footprint role view it is =
     let same : it ≡ joined on.known o = same_running it (joined on.known o) (sym is ∙ ap (runs_at seen) its.0 ∙ on.runs) in
     subst (λ (r : Running). CameTo seen work r) (sym same) (record {
       effect = effect ∙ (λ k. effect_in (on.view k) o.ctx (sym its.1 k));
       footprint = footprint ∙ (λ k. footprint_of ((step o.ctx (sym its.1 k)).in_state (on.view k)).reads);
       role = role;
+      view = view ∙ ap (λ (s : State). changed_all s (changes_of work.outcome.effect)) on.view;
     })

@@ -39,8 +39,12 @@ use Rattle.rls_core.proofs.TakenLemmas.{free_isnt_taken, written_is_taken, wrote
 same_opened : (one other : Opened) → Some one ≡ Some other → one ≡ other
 same_opened one other is = cc
 
-can_follow : (work : Work) (r : Running) (h : Opened) → r.ctx ≡ h.ctx → work.outcome.role ≡ role_after r.ctx.role work.outcome.effect → InRange r.ctx.next (changes_of work.outcome.effect) → CanFollow work (Some h)
-can_follow work r h same role range = subst (λ (x : Ctx). (work.outcome.role ≡ role_after x.role work.outcome.effect) × InRange x.next (changes_of work.outcome.effect)) same (role, range)
+can_follow : (work : Work) (r : Running) (h : Opened) → r.ctx ≡ h.ctx → work.outcome.role ≡ role_after r.ctx.role work.outcome.effect → InRange r.ctx.next (changes_of work.outcome.effect) → work.view ≡ changed_all h.view (changes_of work.outcome.effect) → CanFollow work (Some h)
+can_follow work r h same role range view = record {
+  role = subst (λ (x : Ctx). work.outcome.role ≡ role_after x.role work.outcome.effect) same role;
+  range = subst (λ (x : Ctx). InRange x.next (changes_of work.outcome.effect)) same range;
+  view = view;
+}
 
 no_more : (n : ℕ) → n ≤ n
 no_more n = omega arith
@@ -80,15 +84,15 @@ module _ (committed : List Record) (known : Known) (opens : List (ℕ × Opened)
   came : CameTo seen work it
   came = worked it runs
 
-  -- the work can follow
-  pub follows : ((one : Running) → runs_at seen work.txn ≡ Some one → InRange one.ctx.next (changes_of work.outcome.effect)) → CanFollow work (at_number work.txn opens)
-  follows range = subst (CanFollow work) (sym there) (can_follow work it h refl came.role (range it runs))
-
   abbrev p : Posted
   p = record { statement = work.statement; effect = work.outcome.effect }
 
   abbrev changes : List Change
   changes = changes_of work.outcome.effect
+
+  -- the work can follow
+  pub follows : ((one : Running) → runs_at seen work.txn ≡ Some one → InRange one.ctx.next (changes_of work.outcome.effect)) → CanFollow work (at_number work.txn opens)
+  follows range = subst (CanFollow work) (sym there) (can_follow work it h refl came.role (range it runs) (came.view ∙ ap (λ (s : State). changed_all s changes) (sym (kept.views_are work.txn h there))))
 
   -- what is noted and kept then
   becomes_one : (known' : Known) → Becomes work.txn (option_map (posted 256 work.outcome.footprint changes) (running_of known work.txn)) known known' → Becomes work.txn (Some (posted 256 work.outcome.footprint changes (running_at known work.txn))) known known'

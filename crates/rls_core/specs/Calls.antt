@@ -9,6 +9,7 @@ use Rattle.rls_value.specs.declared.refusal.Limit.TheVariants as limit
 use Rattle.rls_value.specs.declared.refusal.TxnState.TheVariants.{NoneInProgress}
 use Rattle.rls_value.specs.declared.refusal.Cause.{Cause}
 use Rattle.rls_value.specs.declared.refusal.Cause.TheVariants as cause
+use Rattle.rls_catalog.specs.Changed.{changed_all}
 use Rattle.rls_meaning.specs.rls_guard.specs.rls_source.specs.Footprints.{footprint_of}
 use Rattle.rls_statement.specs.declared.statement.Statement.{Statement}
 use Rattle.rls_meaning.specs.rls_guard.specs.{declared.effect.Effect.Effect, Effects.changes_of}
@@ -44,16 +45,24 @@ abbrev pub effects_at : Option Running → List Effect
 effects_at (Some it) = it.so_far.effects
 effects_at None = []
 
--- the work can be put behind what is kept of its transaction: it tells the role after it, and there are numbers for its new rows
+-- the work can follow what is kept of its transaction: it tells the role after it and the view after it, and there are numbers for
+-- its new rows
+pub record Follows (work : Work) (it : Opened) : Type 0 where
+  pub role : work.outcome.role ≡ role_after it.ctx.role work.outcome.effect
+  pub range : InRange it.ctx.next (changes_of work.outcome.effect)
+  pub view : work.view ≡ changed_all it.view (changes_of work.outcome.effect)
+
+-- the work can be put behind what is kept of its transaction
 abbrev pub CanFollow : Work → Option Opened → Type 0
-CanFollow work (Some it) = (work.outcome.role ≡ role_after it.ctx.role work.outcome.effect) × InRange it.ctx.next (changes_of work.outcome.effect)
+CanFollow work (Some it) = Follows work it
 CanFollow work None = ⊥
 
--- the work is what the statement comes to on the transaction's own view
+-- the work is what the statement comes to on the transaction's own view, with this view after it
 pub record CameTo (seen : Seen) (work : Work) (it : Running) : Type 0 where
   pub effect : work.outcome.effect ≡ effect_in (seen_by seen.committed it.so_far) it.ctx work.statement
   pub footprint : work.outcome.footprint ≡ footprint_of ((step it.ctx work.statement).in_state (seen_by seen.committed it.so_far)).reads
   pub role : work.outcome.role ≡ role_after it.ctx.role work.outcome.effect
+  pub view : work.view ≡ changed_all (seen_by seen.committed it.so_far) (changes_of work.outcome.effect)
 
 -- so it is, if the transaction runs
 abbrev pub IsWork : Seen → Work → Type 0

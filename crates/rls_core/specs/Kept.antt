@@ -2,8 +2,9 @@
 use Rattle.std.specs.Prelude.{◌≡◌, ℕ, suc, ◌+◌, ◌<◌, ◌≤◌, List, length, map, Some, true, get_or}
 use Rattle.std.specs.Option.{is_some}
 use Rattle.rls_catalog.specs.State.{State}
-use Rattle.rls_catalog.specs.Changed.{opening}
+use Rattle.rls_catalog.specs.Changed.{opening, changed_all}
 use Rattle.rls_catalog.specs.SoundRows.{RowsAreSound}
+use Rattle.rls_rows.specs.States.{newest_of}
 use Rattle.rls_conflict.specs.Transactions.{Transaction}
 use Rattle.rls_conflict.specs.Begun.{at_number}
 use Rattle.rls_conflict.specs.Known.{Known, is_running, running_of, running_at}
@@ -36,6 +37,10 @@ pub record IsKept (committed : List Record) (known : Known) (opens : List (ℕ �
   pub are_sound : (txn : ℕ) (it : Opened) → at_number txn opens ≡ Some it → RowsAreSound it.view
   pub room_left : length committed + length opens ≤ room
   pub places_left : length opens ≤ places
+
+-- one that began after all commits so far sees the newest state with its changes on
+abbrev pub SeesNewest : State → List State → Transaction → Type 0
+SeesNewest view states txn = txn.snap + 1 ≡ length states → view ≡ changed_all (newest_of states) txn.changes
 
 -- the same transactions are known
 pub record IsSame (old new : Known) : Type 0 where

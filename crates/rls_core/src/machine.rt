@@ -17,7 +17,7 @@ ghost use Rattle.rls_core.specs.Records.{record_at};
 ghost use Rattle.rls_catalog.specs.SoundRows.{RowsAreSound};
 ghost use Rattle.rls_meaning.specs.rls_dml.specs.NextRows.{InRange};
 ghost use Rattle.rls_core.specs.Events.{Running, seen_by};
-ghost use Rattle.rls_core.specs.Kept.{IsSame};
+ghost use Rattle.rls_core.specs.Kept.{IsSame, SeesNewest};
 ghost use Rattle.rls_core.specs.Events.Event.{Begins, Posts, Commits, RollsBack};
 ghost use Rattle.rls_core.specs.Posts.{statement_of, effect_of, record_of};
 ghost use Rattle.rls_core.specs.Opened.{opened_on, with_post, Looks};
@@ -494,7 +494,8 @@ fn make(
     txn: u64,
     opened: &Open,
 ) -> Result<Ready, Refusal>
-    requires { is_running conflicts.now txn ≡ true }
+    requires running { is_running conflicts.now txn ≡ true }
+    requires view { SeesNewest opened.now.view versions.now.states (running_at conflicts.now txn) }
     ensures commit { IfOk result (λ ready. commits.IsReady conflicts.now txn ready.commit) }
     ensures entry { IfOk result (λ ready. ready.entry ≡ record_of (running_at conflicts.now txn) opened.now.begin opened.now.posts) }
     ensures state { IfOk result (λ ready. ready.state ≡ changed_all (newest_of versions.now.states) (running_at conflicts.now txn).changes) }
@@ -522,10 +523,11 @@ fn parts(
     opened: &Open,
     transaction: &Share<Transaction>,
 ) -> Result<(Record, State), AllocError>
+    requires { SeesNewest opened.now.view versions.now.states transaction.now }
     ensures entry { IfOk result (λ made. made.0 ≡ record_of transaction.now opened.now.begin opened.now.posts) }
     ensures state { IfOk result (λ made. made.1 ≡ changed_all (newest_of versions.now.states) transaction.now.changes) }
 {
-    let state = versions.ready(alloc, &transaction.get().changes)?;
+    let state = state_of(alloc, versions, opened.view(), transaction.get())?;
     match entry_of(alloc, transaction, opened) {
         Ok(entry) => Ok((entry, state)),
         Err(refused) => {
@@ -533,6 +535,29 @@ fn parts(
             Err(refused)
         }
     }
+}
+
+/// The newest state with the changes of the transaction on. Where nobody has committed since it began, that is what it sees.
+fn state_of(
+    alloc: Global,
+    versions: &Versions,
+    view: &State,
+    transaction: &Transaction,
+) -> Result<State, AllocError>
+    requires { SeesNewest view.now versions.now.states transaction.now }
+    ensures { IfOk result (λ state. state ≡ changed_all (newest_of versions.now.states) transaction.now.changes) }
+{
+    if is_latest(versions, transaction) {
+        return view.copy();
+    }
+    versions.ready(alloc, &transaction.changes)
+}
+
+/// Whether nobody has committed since the transaction began.
+fn is_latest(versions: &Versions, transaction: &Transaction) -> bool
+    ensures { result ≡ true → transaction.now.snap + 1 ≡ length versions.now.states }
+{
+    transaction.snap == versions.commits()
 }
 
 fn entry_of(

@@ -23,7 +23,7 @@ use rls_meaning::rls_guard::rls_source::Footprint;
 use rls_meaning::rls_guard::{Ctx, Effect};
 use rls_rows::State;
 use rls_statement::Statement;
-use rls_value::{Items, Name, Refusal};
+use rls_value::{Items, Name, Refusal, or_drop};
 use std::alloc::{AllocError, Global};
 use std::marker::Model;
 
@@ -116,18 +116,23 @@ impl Open {
         ensures effect { IfOk result (λ work. work.outcome.effect ≡ effect_in self.now.view self.now.ctx statement) }
         ensures footprint { IfOk result (λ work. work.outcome.footprint ≡ footprint_of ((step self.now.ctx statement).in_state self.now.view).reads) }
         ensures role { IfOk result (λ work. work.outcome.role ≡ role_after self.now.ctx.role work.outcome.effect) }
+        ensures view { IfOk result (λ work. work.view ≡ changed_all self.now.view (changes_of work.outcome.effect)) }
     {
-        match came_to(alloc, &self.view, &self.ctx, statement.get()) {
-            Ok(outcome) => Ok(Work {
-                txn,
-                statement,
-                outcome,
-            }),
-            Err(refused) => {
-                drop(statement);
-                Err(refused)
-            }
-        }
+        let outcome = or_drop!(
+            came_to(alloc, &self.view, &self.ctx, statement.get()),
+            statement
+        );
+        let view = or_drop!(
+            state_after(alloc, &self.view, &outcome.effect),
+            statement,
+            outcome
+        );
+        Ok(Work {
+            txn,
+            statement,
+            outcome,
+            view,
+        })
     }
 
     /// Puts the work behind its posts, here and in the record of transactions; refuses it as `Conflicts::post` does.
@@ -140,6 +145,7 @@ impl Open {
         requires runs { is_running conflicts.old work.txn ≡ true }
         requires role { work.outcome.role ≡ role_after self.old.ctx.role work.outcome.effect }
         requires range { InRange self.old.ctx.next (changes_of work.outcome.effect) }
+        requires view { work.view ≡ changed_all self.old.view (changes_of work.outcome.effect) }
         ensures free { OnOk result (IsFree conflicts.old work.txn (changes_of work.outcome.effect)) }
         ensures known { OnOk result (Becomes work.txn (option_map (posted 256 work.outcome.footprint (changes_of work.outcome.effect)) (running_of conflicts.old work.txn)) conflicts.old conflicts.new) }
         ensures ok { OnOk result (self.new ≡ with_post (record { statement = work.statement; effect = work.outcome.effect }) self.old) }
@@ -148,10 +154,7 @@ impl Open {
         ensures same { OnErr result (self.new ≡ self.old) }
     {
         let rows = work.outcome.new_rows();
-        let Ok(view) = state_after(alloc, &self.view, &work.outcome.effect) else {
-            return Err(Refusal::NoMemory);
-        };
-        let role = put_post(&mut self.posts, conflicts, alloc, work)?;
+        let (role, view) = put_post(&mut self.posts, conflicts, alloc, work)?;
         self.ctx.role = role;
         self.ctx.next = self.ctx.next + rows as u32;
         self.view = view;
@@ -160,18 +163,19 @@ impl Open {
 }
 
 /// Puts the work behind the posts, and into the record of transactions; refuses it as `Conflicts::post` does. Gives the role that is
-/// current from then on.
+/// current from then on, and the state that is seen.
 fn put_post(
     posts: &mut Vec<Share<Posted>>,
     conflicts: &mut Conflicts,
     alloc: Global,
     work: Work,
-) -> Result<Name, Refusal>
+) -> Result<(Name, State), Refusal>
     requires { is_running conflicts.old work.txn ≡ true }
     ensures free { OnOk result (IsFree conflicts.old work.txn (changes_of work.outcome.effect)) }
     ensures known { OnOk result (Becomes work.txn (option_map (posted 256 work.outcome.footprint (changes_of work.outcome.effect)) (running_of conflicts.old work.txn)) conflicts.old conflicts.new) }
     ensures put { OnOk result (posts.new.items ≡ posts.old.items ++ record { statement = work.statement; effect = work.outcome.effect } ∷ []) }
-    ensures role { IfOk result (λ role. role ≡ work.outcome.role) }
+    ensures role { IfOk result (λ next. next.0 ≡ work.outcome.role) }
+    ensures view { IfOk result (λ next. next.1 ≡ work.view) }
     ensures err { IfErr result (IsRefusedBy conflicts.old work.txn (changes_of work.outcome.effect)) }
     ensures kept { OnErr result (conflicts.new ≡ conflicts.old) }
     ensures same { OnErr result (posts.new.items ≡ posts.old.items) }
@@ -180,6 +184,7 @@ fn put_post(
         txn,
         statement,
         outcome,
+        view,
     } = work;
     let Outcome {
         effect,
@@ -192,10 +197,10 @@ fn put_post(
     let Ok(posted) = share(alloc, statement, effect) else {
         return Err(Refusal::NoMemory);
     };
-    match note(conflicts, alloc, txn, &footprint, posted.get()) {
+    match note(conflicts, alloc, txn, footprint, posted.get()) {
         Ok(()) => {
             posts.push_reserved(posted);
-            Ok(role)
+            Ok((role, view))
         }
         Err(refusal) => Err(refusal),
     }
@@ -267,12 +272,12 @@ fn note(
     conflicts: &mut Conflicts,
     alloc: Global,
     txn: u64,
-    footprint: &Footprint,
+    footprint: Footprint,
     post: &Posted,
 ) -> Result<(), Refusal>
     requires { is_running conflicts.old txn ≡ true }
     ensures free { OnOk result (IsFree conflicts.old txn (changes_of post.now.effect)) }
-    ensures ok { OnOk result (Becomes txn (option_map (posted 256 footprint.now (changes_of post.now.effect)) (running_of conflicts.old txn)) conflicts.old conflicts.new) }
+    ensures ok { OnOk result (Becomes txn (option_map (posted 256 footprint (changes_of post.now.effect)) (running_of conflicts.old txn)) conflicts.old conflicts.new) }
     ensures err { IfErr result (IsRefusedBy conflicts.old txn (changes_of post.now.effect)) }
     ensures kept { OnErr result (conflicts.new ≡ conflicts.old) }
 {
@@ -283,12 +288,12 @@ fn note_changes(
     conflicts: &mut Conflicts,
     alloc: Global,
     txn: u64,
-    footprint: &Footprint,
+    footprint: Footprint,
     bare: &Effect,
 ) -> Result<(), Refusal>
     requires { is_running conflicts.old txn ≡ true }
     ensures free { OnOk result (IsFree conflicts.old txn (changes_of bare.now)) }
-    ensures ok { OnOk result (Becomes txn (option_map (posted 256 footprint.now (changes_of bare.now)) (running_of conflicts.old txn)) conflicts.old conflicts.new) }
+    ensures ok { OnOk result (Becomes txn (option_map (posted 256 footprint (changes_of bare.now)) (running_of conflicts.old txn)) conflicts.old conflicts.new) }
     ensures err { IfErr result (IsRefusedBy conflicts.old txn (changes_of bare.now)) }
     ensures kept { OnErr result (conflicts.new ≡ conflicts.old) }
 {

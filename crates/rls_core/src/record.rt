@@ -89,6 +89,6 @@ impl Record {
     pub fn noted(&self) -> &Footprint
         ensures { result.now ≡ self.now.noted }
     {
-        &self.transaction.get().noted
+        self.transaction.get().noted.get()
     }
 }

@@ -59,15 +59,31 @@ ruleset of_outcome_sync = (kept, Footprint.the_sync, Name.the_sync, effect_sync)
 pub outcome_sync : IsSync Outcome_.the_row
 outcome_sync = declared_sync Outcome_.the_type (search of_outcome_sync depth 16 fits 20000, (search of_outcome_sync depth 16 fits 20000, (search of_outcome_sync depth 16 fits 20000, tt)))
 
-ruleset of_work_send = (kept, Share.the_send, statement_send, statement_sync, outcome_send)
+ruleset of_state_send = (kept, Share.the_send, Share.the_sync, catalog_send, catalog_sync)
+
+state_inside_send : IsSend State_Inside.the_row
+state_inside_send = declared_send State_Inside.the_type (search of_state_send depth 16 fits 20000, tt)
+
+pub state_send : IsSend State_.the_row
+state_send = search (sendable, state_inside_send) depth 3
+
+ruleset of_state_sync = (kept, Share.the_send, Share.the_sync, catalog_send, catalog_sync)
+
+state_inside_sync : IsSync State_Inside.the_row
+state_inside_sync = declared_sync State_Inside.the_type (search of_state_sync depth 16 fits 20000, tt)
+
+pub state_sync : IsSync State_.the_row
+state_sync = search (sendable, state_inside_sync) depth 3
+
+ruleset of_work_send = (kept, Share.the_send, statement_send, statement_sync, outcome_send, state_send)
 
 pub work_send : IsSend Work_.the_row
-work_send = declared_send Work_.the_type (search of_work_send depth 16 fits 20000, (search of_work_send depth 16 fits 20000, (search of_work_send depth 16 fits 20000, tt)))
+work_send = declared_send Work_.the_type (search of_work_send depth 16 fits 20000, (search of_work_send depth 16 fits 20000, (search of_work_send depth 16 fits 20000, (search of_work_send depth 16 fits 20000, tt))))
 
-ruleset of_work_sync = (kept, Share.the_sync, statement_send, statement_sync, outcome_sync)
+ruleset of_work_sync = (kept, Share.the_sync, statement_send, statement_sync, outcome_sync, state_sync)
 
 pub work_sync : IsSync Work_.the_row
-work_sync = declared_sync Work_.the_type (search of_work_sync depth 16 fits 20000, (search of_work_sync depth 16 fits 20000, (search of_work_sync depth 16 fits 20000, tt)))
+work_sync = declared_sync Work_.the_type (search of_work_sync depth 16 fits 20000, (search of_work_sync depth 16 fits 20000, (search of_work_sync depth 16 fits 20000, (search of_work_sync depth 16 fits 20000, tt))))
 
 ruleset of_posted_send = (kept, Decisions.the_send, Share.the_send, statement_send, statement_sync, effect_send)
 
@@ -85,7 +101,7 @@ posted_inside_sync = declared_sync Posted_Inside.the_type (search of_posted_sync
 pub posted_sync : IsSync Posted_.the_row
 posted_sync = search (sendable, posted_inside_sync) depth 3
 
-ruleset of_transaction_send = (kept, Footprint.the_send, delta_send)
+ruleset of_transaction_send = (kept, Share.the_send, Footprint.the_send, Footprint.the_sync, delta_send)
 
 transaction_inside_send : IsSend Transaction_Inside.the_row
 transaction_inside_send = declared_send Transaction_Inside.the_type (search of_transaction_send depth 16 fits 20000, (search of_transaction_send depth 16 fits 20000, (search of_transaction_send depth 16 fits 20000, (search of_transaction_send depth 16 fits 20000, tt))))
@@ -93,7 +109,7 @@ transaction_inside_send = declared_send Transaction_Inside.the_type (search of_t
 pub transaction_send : IsSend Transaction_.the_row
 transaction_send = search (sendable, transaction_inside_send) depth 3
 
-ruleset of_transaction_sync = (kept, Footprint.the_sync, delta_sync)
+ruleset of_transaction_sync = (kept, Share.the_sync, Footprint.the_send, Footprint.the_sync, delta_sync)
 
 transaction_inside_sync : IsSync Transaction_Inside.the_row
 transaction_inside_sync = declared_sync Transaction_Inside.the_type (search of_transaction_sync depth 16 fits 20000, (search of_transaction_sync depth 16 fits 20000, (search of_transaction_sync depth 16 fits 20000, (search of_transaction_sync depth 16 fits 20000, tt))))
@@ -116,22 +132,6 @@ record_inside_sync = declared_sync Record_Inside.the_type (search of_record_sync
 
 pub record_sync : IsSync Record_.the_row
 record_sync = search (sendable, record_inside_sync) depth 3
-
-ruleset of_state_send = (kept, Share.the_send, Share.the_sync, catalog_send, catalog_sync)
-
-state_inside_send : IsSend State_Inside.the_row
-state_inside_send = declared_send State_Inside.the_type (search of_state_send depth 16 fits 20000, tt)
-
-pub state_send : IsSend State_.the_row
-state_send = search (sendable, state_inside_send) depth 3
-
-ruleset of_state_sync = (kept, Share.the_send, Share.the_sync, catalog_send, catalog_sync)
-
-state_inside_sync : IsSync State_Inside.the_row
-state_inside_sync = declared_sync State_Inside.the_type (search of_state_sync depth 16 fits 20000, tt)
-
-pub state_sync : IsSync State_.the_row
-state_sync = search (sendable, state_inside_sync) depth 3
 
 ruleset of_opened_send = (kept, Share.the_send, Share.the_sync, Begin.the_send, Begin.the_sync, Ctx.the_field_send, Ctx.the_field_sync, posted_send, posted_sync, state_send, state_sync)
 

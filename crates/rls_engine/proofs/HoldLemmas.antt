@@ -24,10 +24,9 @@ use Rattle.rls_engine.specs.Drafts.{EndsPost, IsNext, IsStep, Posts, StopsCommit
 use Rattle.rls_engine.proofs.TokenLemmas.{changed_all-append}
 
 -- the state that is seen behind a post
-pub next_view : (stand : Stand) (view after : State) (work : Work) → view ≡ sees stand → IsWorkOn stand work → after ≡ changed_all view (changes_of work.outcome.effect) → after ≡ sees (posted_on stand work.statement)
-next_view stand view after work view_is worked is =
-    is
-    ∙ ap (λ (s : State). changed_all s (changes_of work.outcome.effect)) view_is
+pub next_view : (stand : Stand) (work : Work) → IsWorkOn stand work → work.view ≡ sees (posted_on stand work.statement)
+next_view stand work worked =
+    worked.view
     ∙ ap (λ (e : Effect). changed_all (sees stand) (changes_of e)) worked.effect
     ∙ sym (changed_all-append stand.base stand.running.so_far.changes (changes_of (effect_on stand work.statement)))
 

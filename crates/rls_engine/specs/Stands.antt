@@ -6,7 +6,7 @@ use Rattle.rls_core.specs.rls_guard.specs.rls_catalog.specs.StateCode.{state_cod
 use Rattle.rls_core.specs.rls_guard.specs.rls_catalog.specs.Changed.{changed_all}
 use Rattle.rls_core.specs.rls_guard.specs.rls_source.specs.Footprints.{footprint_of}
 use Rattle.rls_statement.specs.declared.statement.Statement.{Statement}
-use Rattle.rls_core.specs.rls_guard.specs.declared.effect.Effect.{Effect}
+use Rattle.rls_core.specs.rls_guard.specs.{declared.effect.Effect.Effect, Effects.changes_of}
 use Rattle.rls_core.specs.rls_access.specs.{Statements.step, Statements.effect_in, Statements.role_after, Transactions.Begin, Transactions.first_ctx}
 use Rattle.rls_core.specs.declared.work.Work.{Work}
 use Rattle.rls_core.specs.Records.{Record, new_record, nobody, state_after}
@@ -57,11 +57,12 @@ led_to seen txn (Some begin) asked = begun_on seen begin
 led_to seen txn None (Some asked) = posted_on (stand_at seen.committed (runs_at seen txn)) asked
 led_to seen txn None None = nowhere
 
--- the work is what the statement comes to on the stand
+-- the work is what the statement comes to on the stand, with the state that is seen behind it
 pub record IsWorkOn (stand : Stand) (work : Work) : Type 0 where
   pub effect : work.outcome.effect ≡ effect_on stand work.statement
   pub footprint : work.outcome.footprint ≡ footprint_of ((step stand.running.ctx work.statement).in_state (sees stand)).reads
   pub role : work.outcome.role ≡ role_after stand.running.ctx.role work.outcome.effect
+  pub view : work.view ≡ changed_all (sees stand) (changes_of work.outcome.effect)
 
 -- so it is, of this transaction and this statement
 pub record IsWorkOf (txn : ℕ) (stand : Stand) (asked : Statement) (work : Work) : Type 0 where

@@ -74,10 +74,16 @@ impl<N: Named> Held<N> {
             run_statement(alloc, &mut source, &self.ctx, statement.get()),
             statement
         );
+        let view = or_drop!(
+            view_after(alloc, &self.view, &outcome.effect),
+            statement,
+            outcome
+        );
         Ok(Work {
             txn: self.txn,
             statement,
             outcome,
+            view,
         })
     }
 
@@ -96,7 +102,7 @@ impl<N: Named> Held<N> {
         ensures ctx { IfOk result (λ next. next.ctx ≡ (posted_on self.now.stand work.now.statement).running.ctx) }
     {
         let ctx = ctx_after(&self.ctx, &work.outcome)?;
-        let view = match view_after(alloc, &self.view, &work.outcome.effect) {
+        let view = match work.view.copy() {
             Ok(view) => view,
             Err(refused) => {
                 drop(ctx);

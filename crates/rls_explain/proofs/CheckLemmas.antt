@@ -44,16 +44,16 @@ behind : (ask : Ask) (xs ys : List Ask) → IsAsk ask ys → IsAsk ask (xs ++ ys
 behind ask xs ys asked test is = list_any-append test xs ys ∙ or_right (list_any test xs) (list_any test ys) (asked test is)
 
 -- what is asked of rows of that side is asked
-abbrev IsAskedOn : Command → Side → Type 0
+abbrev pub IsAskedOn : Command → Side → Type 0
 IsAskedOn c which = IsAsk (c.kind, which) (asks_of c.kind (reads c)) × (reads c ≡ true → IsAsk (k.Select, which) (asks_of c.kind (reads c)))
 
-old_asked : (c : Command) → judges_old c.kind ≡ true → IsAskedOn c side.Old
+pub old_asked : (c : Command) → judges_old c.kind ≡ true → IsAskedOn c side.Old
 old_asked c judges = (
   in_front (c.kind, side.Old) (asks_on (judges_old c.kind) c.kind (reads c) side.Old) (asks_on (judges_new c.kind) c.kind (reads c) side.New) (on_own (judges_old c.kind) c.kind (reads c) side.Old judges),
   λ read. in_front (k.Select, side.Old) (asks_on (judges_old c.kind) c.kind (reads c) side.Old) (asks_on (judges_new c.kind) c.kind (reads c) side.New) (on_select (judges_old c.kind) c.kind (reads c) side.Old judges read),
 )
 
-new_asked : (c : Command) → judges_new c.kind ≡ true → IsAskedOn c side.New
+pub new_asked : (c : Command) → judges_new c.kind ≡ true → IsAskedOn c side.New
 new_asked c judges = (
   behind (c.kind, side.New) (asks_on (judges_old c.kind) c.kind (reads c) side.Old) (asks_on (judges_new c.kind) c.kind (reads c) side.New) (on_own (judges_new c.kind) c.kind (reads c) side.New judges),
   λ read. behind (k.Select, side.New) (asks_on (judges_old c.kind) c.kind (reads c) side.Old) (asks_on (judges_new c.kind) c.kind (reads c) side.New) (on_select (judges_new c.kind) c.kind (reads c) side.New judges read),
@@ -75,7 +75,7 @@ ruled_own laws s c kind which ask =
     (quals_own kind which c.kind (reads c) (role_privileges_in s c.role) (c.name, c.table) s.tables (policies_in s (role_privileges_in s c.role) c.name c.table) laws.taken ask))
 
 -- they are looked at
-ruled_looked : Laws → (s : State) (c : Command) (kind : Kind) (which : Side) (p : PolicyExpansion) → IsExpansionIn s c p → IsAsk (kind, which) (asks_of c.kind (reads c)) → Within (quals_tables (ruled s c.role kind which (c.name, c.table))) p.tables
+pub ruled_looked : Laws → (s : State) (c : Command) (kind : Kind) (which : Side) (p : PolicyExpansion) → IsExpansionIn s c p → IsAsk (kind, which) (asks_of c.kind (reads c)) → Within (quals_tables (ruled s c.role kind which (c.name, c.table))) p.tables
 ruled_looked laws s c kind which p expands ask t is = expands.own_looked t (alike_within (asked_in s c) (own_of s c) (λ seen. sym (own_alike s c seen)) t (ruled_own laws s c kind which ask t is))
 
 -- ---- what the conditions say
@@ -91,7 +91,7 @@ judgements_same s one other role row looked same (condition ∷ conditions) with
 quals_same : (s : State) (one other : Shows) (role : List ℕ) (id : RowId) (row : List Value) (which : Side) (kind : Kind) (looked : List (List ℕ)) → ((t : Term) (env : Environment) → Within (tables_of t) looked → (value_of t one env).in_state s ≡ (value_of t other env).in_state s)
     → (quals : SecurityQuals) → Within (quals_tables quals) looked → explained_quals s one role id row which kind quals ≡ explained_quals s other role id row which kind quals
 quals_same s one other role id row which kind looked same Exempt within = refl
-quals_same s one other role id row which kind looked same (Policies conditions) within = ap (explained_by id which kind) (judgements_same s one other role row looked same conditions within)
+quals_same s one other role id row which kind looked same (Policies conditions) within = ap (explained_by id row which kind) (judgements_same s one other role row looked same conditions within)
 
 -- over what tables show the value is that of the meaning
 pub value_meant : (s : State) (sees : Shows) (shown : Shown) → Alike s sees shown → (env : Environment) (t : Term) → value_found s sees env t ≡ value t shown env
@@ -105,9 +105,9 @@ judgements_meant s sees shown alike role row (condition ∷ conditions) =
 -- by the rules of the state, whether the role is exempt or not
 ruled_meant : (exempt : Bool) (s : State) (sees : Shows) (role : List ℕ) (id : RowId) (row : List Value) (which : Side) (kind : Kind) (conditions : List (Policy × Term)) (truths : List (Policy × Truth)) → judgements_found s sees role row conditions ≡ truths
     → explained_quals s sees role id row which kind (if exempt then Exempt else Policies conditions)
-    ≡ record { decision = record { id = id; side = which; kind = kind; verdict = if exempt then v.Exempt else verdict_of truths }; policies = if exempt then [] else map said_as truths }
+    ≡ record { decision = record { id = id; side = which; kind = kind; verdict = if exempt then v.Exempt else verdict_of truths }; policies = if exempt then [] else map said_as truths; row = row; details = None }
 ruled_meant true s sees role id row which kind conditions truths same = refl
-ruled_meant false s sees role id row which kind conditions truths same = ap (explained_by id which kind) same
+ruled_meant false s sees role id row which kind conditions truths same = ap (explained_by id row which kind) same
 
 -- a check of the command says what the meaning says
 check_meant : Laws → (s : State) (c : Command) (p : PolicyExpansion) → IsExpansionIn s c p → (kind : Kind) (which : Side) → IsAsk (kind, which) (asks_of c.kind (reads c)) → (id : RowId) (row : List Value)

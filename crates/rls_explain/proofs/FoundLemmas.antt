@@ -2,7 +2,7 @@
 use Rattle.std.specs.Prelude.{◌≡◌, refl, ◌≤◌, ◌+◌, ℕ, List, [], ◌∷◌, ◌++◌, Bool, true, false, ◌&&◌, ◌||◌, Option, Some, None, Result, Ok, Err, filter, length, map, nat_le, slice_get, unwrap_or, if◌then◌else◌}
 use Rattle.std.specs.{List.flat_map, List.list_any, List.range_with_len, Option.option_map, Option.option_map_or, Option.option_to_list, Result.is_ok}
 use Rattle.std.proofs.{Common.ap, Common.append-nil, Common.leb-true, Common.sym, Common.◌∙◌, Common.subst, lemmas.Bool.true≢false, lemmas.List.Elements.filter-append, lemmas.List.Folds.list_any-append}
-use Rattle.rls_value.specs.{Names.one_of, declared.refusal.Refusal.Refusal, declared.refusal.Refusal.TheVariants.Limit, declared.refusal.Refusal.TheVariants.Recursion, declared.refusal.Refusal.TheVariants.Undefined, declared.row.RowId.RowId, declared.value.Value.Value, Giving.and_then}
+use Rattle.rls_value.specs.{Names.one_of, declared.refusal.Refusal.Refusal, declared.refusal.Refusal.TheVariants.Limit, declared.refusal.Refusal.TheVariants.Recursion, declared.refusal.Refusal.TheVariants.Undefined, declared.value.Value.Value, Giving.and_then}
 use Rattle.rls_value.specs.declared.refusal.Limit.TheVariants as limit
 use Rattle.rls_value.specs.declared.refusal.NameKind.TheVariants as kind
 use Rattle.rls_value.specs.declared.verb.Kind.TheVariants as k
@@ -21,10 +21,10 @@ use Rattle.rls_meaning.specs.rls_expansion.specs.{declared.expansion.PolicyExpan
 use Rattle.rls_meaning.specs.{Analysing.checked, Analysing.items_of, Analysing.items_resolved, Analysing.of_both, Analysing.of_value, Analysing.place_in, Commands.Command, Commands.closing_in, Commands.permitted, Commands.permitted_in, Commands.query_tables, Commands.reads, Commands.required}
 use Rattle.rls_meaning.specs.{Deleting.delete_command, Deleting.delete_parts, Expanding.IsExpanded, Expanding.IsExpansionIn, Expanding.Made, Expanding.Refused, Expanding.expansion_in, Inserting.insert_command, Inserting.insert_parts, Inserting.of_tuple, Inserting.places_in, Inserting.row_of_tuple, Meaning.effect_of, Naming.provided, Parts.found_in, Parts.names_in, Resolving.resolved, Rows.kinds_of, Rows.qualifying, Rows.scanned, Selecting.select_command, Selecting.select_parts, Showing.rows_at_key, Updating.new_version, Updating.update_command, Updating.update_parts}
 use Rattle.rls_meaning.proofs.{Analysing.places_same, Columns.insert_named, Columns.insert_queries, Columns.update_named, Columns.update_queries, Columns.where_named, Columns.where_queries, Listing.tables}
-use Rattle.rls_explain.specs.declared.explanation.Explained.{Explained}
-use Rattle.rls_explain.specs.Explaining.{decisions_of, explained_all, explained_on, explained_rows, insert_explained, is_on, scan_explained, update_explained}
-use Rattle.rls_explain.specs.Found.{Decides, DeleteIsFound, InsertHasRoom, InsertIsFound, SelectIsFound, UpdateIsFound, are_read, expansion_found, insert_found, place_of, places_given, places_set, scan_found, unless_closing, update_found, versions_found}
-use Rattle.rls_explain.proofs.{CheckLemmas.Laws, DecidedLemmas.decided_so_far, DecidedLemmas.decision_of, DecidedLemmas.decisions_mean, DecidedLemmas.some_decided, Lists.any_map, RowLemmas.own_explained, RowLemmas.qualifying_meant, RowLemmas.rows_meant, RowLemmas.tuples_meant, RowLemmas.versions_meant}
+use Rattle.rls_explain.specs.declared.explanation.{Explained.Explained, Wanted.Wanted}
+use Rattle.rls_explain.specs.Explaining.{decisions_of, detailed, explained_all, explained_on, explained_rows, insert_explained, is_on, scan_explained, update_explained, with_details}
+use Rattle.rls_explain.specs.Found.{Decides, detailed_found, is_row, DeleteIsFound, InsertHasRoom, InsertIsFound, SelectIsFound, UpdateIsFound, are_read, expansion_found, insert_found, place_of, places_given, places_set, scan_found, unless_closing, update_found, versions_found}
+use Rattle.rls_explain.proofs.{CheckLemmas.Laws, CheckLemmas.new_asked, CheckLemmas.old_asked, DecidedLemmas.decided_so_far, DecidedLemmas.decision_of, DecidedLemmas.decisions_mean, DecidedLemmas.some_decided, DetailLemmas.both_detailed, DetailLemmas.detailed_meant, Lists.any_map, Lists.kept_map, RowLemmas.own_explained, RowLemmas.qualifying_meant, RowLemmas.rows_meant, RowLemmas.tuples_meant, RowLemmas.versions_meant}
 
 -- ---- under the policy expansion, which there is where what is asked for is permitted
 
@@ -66,9 +66,9 @@ rows_read s c which (stored ∷ rows) other =
     ∙ (λ i. row_reads (reads c) s c which stored other i || rows_read s c which rows other i)
     ∙ read_first (reads c) (are_some rows)
 
-no_rows_decided : (s : State) (c : Command) (which : Side) (id : RowId) (rows : List Stored) → list_any (is_on id) (explained_rows s c which rows) ≡ true → are_some rows ≡ true
-no_rows_decided s c which id [] is = is
-no_rows_decided s c which id (stored ∷ rows) is = refl
+no_rows_decided : (s : State) (c : Command) (which : Side) (wanted : Wanted) (rows : List Stored) → list_any (is_on wanted) (explained_rows s c which rows) ≡ true → are_some rows ≡ true
+no_rows_decided s c which wanted [] is = is
+no_rows_decided s c which wanted (stored ∷ rows) is = refl
 
 either_read : (one other read : Bool) → (one || other) ≡ true → ((one && read) || (other && read)) ≡ read
 either_read true true true is = refl
@@ -83,21 +83,32 @@ some_either true b one other first second is = ap (λ b. b || other) (first refl
 some_either false b true other first second is = refl
 some_either false b false other first second is = second is
 
+-- a test of decisions finds the same at length
+detailed_any : (test : Explained → Bool) (long : Bool) (s : State) (c : Command) → ((one : Explained) → test (with_details s c one) ≡ test one) → (explained : List Explained) → list_any test (detailed long s c explained) ≡ list_any test explained
+detailed_any test true s c same explained = any_map test (with_details s c) explained ∙ (λ i. list_any (λ one. same one i) explained)
+detailed_any test false s c same explained = refl
+
+-- and keeps the same
+detailed_kept : (wanted : Wanted) (long : Bool) (s : State) (c : Command) (explained : List Explained) → filter (is_on wanted) (detailed long s c explained) ≡ detailed long s c (filter (is_on wanted) explained)
+detailed_kept wanted true s c explained = kept_map (is_on wanted) (with_details s c) explained
+detailed_kept wanted false s c explained = refl
+
 -- the flag that is taken from the decisions tells it
-pub reads_told : (s : State) (ctx : Ctx) (asked : Statement) (id : RowId) (c : Command) (old new : List Stored) (read : Bool) → is_same_kind c.kind k.Select ≡ false → Decides s ctx asked id → are_read (decisions_of (effect_of s ctx asked)) ≡ read
-    → explained_rows s c side.Old old ++ explained_rows s c side.New new ≡ explained_all s ctx asked → read ≡ reads c
-reads_told s ctx asked id c old new read other decides are same =
+pub reads_told : (s : State) (ctx : Ctx) (asked : Statement) (wanted : Wanted) (c : Command) (old new : List Stored) (read : Bool) → is_same_kind c.kind k.Select ≡ false → Decides s ctx asked wanted → are_read (decisions_of (effect_of s ctx asked)) ≡ read
+    → detailed wanted.long s c (explained_rows s c side.Old old ++ explained_rows s c side.New new) ≡ explained_all wanted.long s ctx asked → read ≡ reads c
+reads_told s ctx asked wanted c old new read other decides are same =
     let before : List Explained = explained_rows s c side.Old old in
     let after : List Explained = explained_rows s c side.New new in
     sym are
-    ∙ ap are_read (sym (decisions_mean s ctx asked))
-    ∙ any_map (λ decision. is_same_kind decision.kind k.Select) decision_of (explained_all s ctx asked)
+    ∙ ap are_read (sym (decisions_mean wanted.long s ctx asked))
+    ∙ any_map (λ decision. is_same_kind decision.kind k.Select) decision_of (explained_all wanted.long s ctx asked)
     ∙ ap (list_any is_read) (sym same)
+    ∙ detailed_any is_read wanted.long s c (λ one. refl) (before ++ after)
     ∙ list_any-append is_read before after
     ∙ (λ i. rows_read s c side.Old old other i || rows_read s c side.New new other i)
     ∙ either_read (are_some old) (are_some new) (reads c)
-    (some_either (list_any (is_on id) before) (list_any (is_on id) after) (are_some old) (are_some new) (no_rows_decided s c side.Old id old) (no_rows_decided s c side.New id new)
-    (sym (list_any-append (is_on id) before after) ∙ ap (list_any (is_on id)) same ∙ some_decided s ctx asked id decides))
+    (some_either (list_any (is_on wanted) before) (list_any (is_on wanted) after) (are_some old) (are_some new) (no_rows_decided s c side.Old wanted old) (no_rows_decided s c side.New wanted new)
+    (sym (list_any-append (is_on wanted) before after) ∙ sym (detailed_any (is_on wanted) wanted.long s c (λ one. refl) (before ++ after)) ∙ ap (list_any (is_on wanted)) same ∙ some_decided s ctx asked wanted decides))
 
 -- ---- the table, and what comes of the parts
 
@@ -110,21 +121,24 @@ pub behind_table : (name : List ℕ) (found : Option TableDef) (table : TableDef
 behind_table name found table next all there is = sym (ap (λ found. with_table name found next) there) ∙ is
 
 -- a scan that is permitted
-pub scan_done : (s : State) (c : Command) (condition : Option Term) (all : List Explained) → scan_explained s c condition ≡ Ok all → (permitted_in s c ≡ Ok tt) × (explained_rows s c side.Old (scanned s c condition) ≡ all)
-scan_done s c condition all is =
-    let done = and_then_ok (permitted_in s c) (λ _. Ok (explained_rows s c side.Old (scanned s c condition))) all is in
-    (done.1.0, ok_same (explained_rows s c side.Old (scanned s c condition)) all done.1.1)
+pub scan_done : (long : Bool) (s : State) (c : Command) (condition : Option Term) (all : List Explained) → scan_explained long s c condition ≡ Ok all → (permitted_in s c ≡ Ok tt) × (detailed long s c (explained_rows s c side.Old (scanned s c condition)) ≡ all)
+scan_done long s c condition all is =
+    let done = and_then_ok (permitted_in s c) (λ _. Ok (detailed long s c (explained_rows s c side.Old (scanned s c condition)))) all is in
+    (done.1.0, ok_same (detailed long s c (explained_rows s c side.Old (scanned s c condition))) all done.1.1)
 
 -- what is found of it
-scan_meant : Laws → (s : State) (c : Command) (id : RowId) (condition : Option Term) (all : List Explained) → judges_old c.kind ≡ true → scan_explained s c condition ≡ Ok all
-    → scan_found s c.role id (scanned s c condition) (unless_closing (expansion_in s c)) ≡ filter (is_on id) all
-scan_meant laws s c id condition all judges is =
-    let done = scan_done s c condition all is in
-    under_expansion s c (scan_found s c.role id (scanned s c condition)) (filter (is_on id) all) (laws.expanded s c) done.0
+scan_meant : Laws → (s : State) (c : Command) (wanted : Wanted) (condition : Option Term) (all : List Explained) → judges_old c.kind ≡ true → scan_explained wanted.long s c condition ≡ Ok all
+    → scan_found s c.role (c.name, c.table) wanted (scanned s c condition) (unless_closing (expansion_in s c)) ≡ filter (is_on wanted) all
+scan_meant laws s c wanted condition all judges is =
+    let done = scan_done wanted.long s c condition all is in
+    let rows : List Stored = scanned s c condition in
+    under_expansion s c (scan_found s c.role (c.name, c.table) wanted rows) (filter (is_on wanted) all) (laws.expanded s c) done.0
     (λ p expands.
-    rows_meant laws s c p expands judges id (scanned s c condition)
-    ∙ sym (own_explained s c side.Old id (scanned s c condition))
-    ∙ ap (filter (is_on id)) done.1)
+    ap (detailed_found s p.relations c.role (c.name, c.table) wanted.long) (rows_meant laws s c p expands judges wanted rows)
+    ∙ detailed_meant laws s c p expands side.Old (old_asked c judges) wanted.long (filter (is_row wanted) rows)
+    ∙ ap (detailed wanted.long s c) (sym (own_explained s c side.Old wanted rows))
+    ∙ sym (detailed_kept wanted wanted.long s c (explained_rows s c side.Old rows))
+    ∙ ap (filter (is_on wanted)) done.1)
 
 -- ---- SELECT
 
@@ -142,15 +156,15 @@ pub scan_queries : (found : List InScope) (condition : Option Term) → tables_i
 scan_queries found condition = sym (where_named found condition) ∙ ap tables (where_queries found condition)
 
 pub select_found : Laws → SelectIsFound
-select_found laws s ctx asked id table condition there decides is =
-    let all : List Explained = explained_all s ctx (statement.Select asked) in
-    let done = and_then_ok (select_parts s asked table) (λ parts. scan_explained s (select_command ctx.role asked table parts) parts.condition) all
-    (behind_table asked.table (table_of s asked.table) table (λ table. and_then (select_parts s asked table) (λ parts. scan_explained s (select_command ctx.role asked table parts) parts.condition)) all there (decided_so_far s ctx (statement.Select asked) id decides)) in
+select_found laws s ctx asked wanted table condition there decides is =
+    let all : List Explained = explained_all wanted.long s ctx (statement.Select asked) in
+    let done = and_then_ok (select_parts s asked table) (λ parts. scan_explained wanted.long s (select_command ctx.role asked table parts) parts.condition) all
+    (behind_table asked.table (table_of s asked.table) table (λ table. and_then (select_parts s asked table) (λ parts. scan_explained wanted.long s (select_command ctx.role asked table parts) parts.condition)) all there (decided_so_far s ctx (statement.Select asked) wanted decides)) in
     let parts : AnalysedSelect = done.0 in
     let c : Command = select_command ctx.role asked table parts in
     let same = is ∙ select_parts_of s asked table parts done.1.0 in
-    (λ i. scan_found s ctx.role id (rows_at_key s asked.table (pinned_key ctx.role table.key (same i))) (expansion_found s ctx.role (asked.table, table) k.Select false ((ap tables_if same ∙ scan_queries parts.found parts.condition) i)))
-    ∙ scan_meant laws s c id parts.condition all refl done.1.1
+    (λ i. scan_found s ctx.role (asked.table, table) wanted (rows_at_key s asked.table (pinned_key ctx.role table.key (same i))) (expansion_found s ctx.role (asked.table, table) k.Select false ((ap tables_if same ∙ scan_queries parts.found parts.condition) i)))
+    ∙ scan_meant laws s c wanted parts.condition all refl done.1.1
 
 -- ---- DELETE
 
@@ -163,16 +177,16 @@ delete_parts_of s asked table parts is =
     ap (λ (it : AnalysedDelete). it.condition) (ok_same resolved_parts parts checks.1.1)
 
 pub delete_found : Laws → DeleteIsFound
-delete_found laws s ctx asked id table condition read there decides are is =
-    let all : List Explained = explained_all s ctx (statement.Delete asked) in
-    let done = and_then_ok (delete_parts s asked table) (λ parts. scan_explained s (delete_command ctx.role asked table parts) parts.condition) all
-    (behind_table asked.table (table_of s asked.table) table (λ table. and_then (delete_parts s asked table) (λ parts. scan_explained s (delete_command ctx.role asked table parts) parts.condition)) all there (decided_so_far s ctx (statement.Delete asked) id decides)) in
+delete_found laws s ctx asked wanted table condition read there decides are is =
+    let all : List Explained = explained_all wanted.long s ctx (statement.Delete asked) in
+    let done = and_then_ok (delete_parts s asked table) (λ parts. scan_explained wanted.long s (delete_command ctx.role asked table parts) parts.condition) all
+    (behind_table asked.table (table_of s asked.table) table (λ table. and_then (delete_parts s asked table) (λ parts. scan_explained wanted.long s (delete_command ctx.role asked table parts) parts.condition)) all there (decided_so_far s ctx (statement.Delete asked) wanted decides)) in
     let parts : AnalysedDelete = done.0 in
     let c : Command = delete_command ctx.role asked table parts in
     let same = is ∙ delete_parts_of s asked table parts done.1.0 in
-    let reading = reads_told s ctx (statement.Delete asked) id c (scanned s c parts.condition) [] read refl decides are (append-nil (explained_rows s c side.Old (scanned s c parts.condition)) ∙ (scan_done s c parts.condition all done.1.1).1) in
-    (λ i. scan_found s ctx.role id (rows_at_key s asked.table (pinned_key ctx.role table.key (same i))) (expansion_found s ctx.role (asked.table, table) k.Delete (reading i) ((ap tables_if same ∙ scan_queries parts.found parts.condition) i)))
-    ∙ scan_meant laws s c id parts.condition all refl done.1.1
+    let reading = reads_told s ctx (statement.Delete asked) wanted c (scanned s c parts.condition) [] read refl decides are (ap (detailed wanted.long s c) (append-nil (explained_rows s c side.Old (scanned s c parts.condition))) ∙ (scan_done wanted.long s c parts.condition all done.1.1).1) in
+    (λ i. scan_found s ctx.role (asked.table, table) wanted (rows_at_key s asked.table (pinned_key ctx.role table.key (same i))) (expansion_found s ctx.role (asked.table, table) k.Delete (reading i) ((ap tables_if same ∙ scan_queries parts.found parts.condition) i)))
+    ∙ scan_meant laws s c wanted parts.condition all refl done.1.1
 
 -- ---- UPDATE
 
@@ -233,54 +247,58 @@ pub update_queried : (role : List ℕ) (asked : Update) (table : TableDef) (part
 update_queried role asked table parts = sym (update_named parts) ∙ ap tables (update_queries parts)
 
 -- what an UPDATE comes so far with that it decides on new rows
-pub record UpdateDone (s : State) (parts : AnalysedUpdate) (c : Command) (all : List Explained) : Type 0 where
+pub record UpdateDone (long : Bool) (s : State) (parts : AnalysedUpdate) (c : Command) (all : List Explained) : Type 0 where
   pub permitted : permitted_in s c ≡ Ok tt
   pub new : List Stored
   pub made : each_of (new_version s c parts.assignments) (qualifying s c parts.condition) ≡ Ok new
-  pub same : explained_rows s c side.Old (scanned s c parts.condition) ++ explained_rows s c side.New new ≡ all
+  pub same : detailed long s c (explained_rows s c side.Old (scanned s c parts.condition) ++ explained_rows s c side.New new) ≡ all
 
-pub update_done : (s : State) (parts : AnalysedUpdate) (c : Command) (all : List Explained) → update_explained s parts c ≡ Ok all → UpdateDone s parts c all
-update_done s parts c all is =
-    let old : List Explained = explained_rows s c side.Old (scanned s c parts.condition) in
-    let first = and_then_ok (permitted_in s c) (λ _. and_then (each_of (new_version s c parts.assignments) (qualifying s c parts.condition)) (λ new. Ok (old ++ explained_rows s c side.New new))) all is in
-    let second = and_then_ok (each_of (new_version s c parts.assignments) (qualifying s c parts.condition)) (λ new. Ok (old ++ explained_rows s c side.New new)) all first.1.1 in
-    record { permitted = first.1.0; new = second.0; made = second.1.0; same = ok_same (old ++ explained_rows s c side.New second.0) all second.1.1 }
+pub update_done : (long : Bool) (s : State) (parts : AnalysedUpdate) (c : Command) (all : List Explained) → update_explained long s parts c ≡ Ok all → UpdateDone long s parts c all
+update_done long s parts c all is =
+    let told : List Stored → List Explained = λ new. detailed long s c (explained_rows s c side.Old (scanned s c parts.condition) ++ explained_rows s c side.New new) in
+    let first = and_then_ok (permitted_in s c) (λ _. and_then (each_of (new_version s c parts.assignments) (qualifying s c parts.condition)) (λ new. Ok (told new))) all is in
+    let second = and_then_ok (each_of (new_version s c parts.assignments) (qualifying s c parts.condition)) (λ new. Ok (told new)) all first.1.1 in
+    record { permitted = first.1.0; new = second.0; made = second.1.0; same = ok_same (told second.0) all second.1.1 }
 
 -- what is found of it
-update_meant : Laws → (s : State) (role : List ℕ) (asked : Update) (table : TableDef) (parts : AnalysedUpdate) (id : RowId) (all : List Explained) → UpdateDone s parts (update_command role asked table parts) all
-    → update_found s role id table.columns (places_of_update parts.assignments) (map (λ assignment. assignment.1) parts.assignments) parts.condition (scanned s (update_command role asked table parts) parts.condition) (unless_closing (expansion_in s (update_command role asked table parts)))
-    ≡ filter (is_on id) all
-update_meant laws s role asked table parts id all done =
+update_meant : Laws → (s : State) (role : List ℕ) (asked : Update) (table : TableDef) (parts : AnalysedUpdate) (wanted : Wanted) (all : List Explained) → UpdateDone wanted.long s parts (update_command role asked table parts) all
+    → update_found s role (asked.table, table) wanted table.columns (places_of_update parts.assignments) (map (λ assignment. assignment.1) parts.assignments) parts.condition (scanned s (update_command role asked table parts) parts.condition) (unless_closing (expansion_in s (update_command role asked table parts)))
+    ≡ filter (is_on wanted) all
+update_meant laws s role asked table parts wanted all done =
     let c : Command = update_command role asked table parts in
     let terms : List Term = map (λ assignment. assignment.1) parts.assignments in
     let rows : List Stored = scanned s c parts.condition in
-    under_expansion s c (update_found s role id table.columns (places_of_update parts.assignments) terms parts.condition rows) (filter (is_on id) all) (laws.expanded s c) done.permitted
+    under_expansion s c (update_found s role (asked.table, table) wanted table.columns (places_of_update parts.assignments) terms parts.condition rows) (filter (is_on wanted) all) (laws.expanded s c) done.permitted
     (λ p expands.
     let asked_tables : Within (all_tables terms ++ tables_if parts.condition) (query_tables c) = λ name is. ap (λ names. one_of names name) (sym (update_queried role asked table parts)) ∙ is in
-    (λ i. rows_meant laws s c p expands refl id rows i
-    ++ (ap (versions_found s (shows p.relations role) role p.new table.columns (places_of_update parts.assignments) terms id) (qualifying_meant s c p parts.condition expands refl (within_last (all_tables terms) (tables_if parts.condition) (query_tables c) asked_tables))
-    ∙ versions_meant laws s c p expands refl id parts.assignments (λ name is. expands.looked name (within_first (all_tables terms) (tables_if parts.condition) (query_tables c) asked_tables name is)) (qualifying s c parts.condition) done.new done.made) i)
-    ∙ (λ i. sym (own_explained s c side.Old id rows) i ++ sym (own_explained s c side.New id done.new) i)
-    ∙ sym (filter-append (is_on id) (explained_rows s c side.Old rows) (explained_rows s c side.New done.new))
-    ∙ ap (filter (is_on id)) done.same)
+    ap (detailed_found s p.relations role (asked.table, table) wanted.long)
+    (λ i. rows_meant laws s c p expands refl wanted rows i
+    ++ (ap (versions_found s (shows p.relations role) role p.new table.columns (places_of_update parts.assignments) terms wanted) (qualifying_meant s c p parts.condition expands refl (within_last (all_tables terms) (tables_if parts.condition) (query_tables c) asked_tables))
+    ∙ versions_meant laws s c p expands refl wanted parts.assignments (λ name is. expands.looked name (within_first (all_tables terms) (tables_if parts.condition) (query_tables c) asked_tables name is)) (qualifying s c parts.condition) done.new done.made) i)
+    ∙ both_detailed laws s c p expands (old_asked c refl) (new_asked c refl) wanted.long (filter (is_row wanted) rows) (filter (is_row wanted) done.new)
+    ∙ ap (detailed wanted.long s c)
+    ((λ i. sym (own_explained s c side.Old wanted rows) i ++ sym (own_explained s c side.New wanted done.new) i)
+    ∙ sym (filter-append (is_on wanted) (explained_rows s c side.Old rows) (explained_rows s c side.New done.new)))
+    ∙ sym (detailed_kept wanted wanted.long s c (explained_rows s c side.Old rows ++ explained_rows s c side.New done.new))
+    ∙ ap (filter (is_on wanted)) done.same)
 
 pub update_found_meant : Laws → UpdateIsFound
-update_found_meant laws s ctx asked id table places terms condition read there decides are placed set is =
-    let all : List Explained = explained_all s ctx (statement.Update asked) in
-    let given = and_then_ok (update_parts s asked table) (λ parts. update_explained s parts (update_command ctx.role asked table parts)) all
-    (behind_table asked.table (table_of s asked.table) table (λ table. and_then (update_parts s asked table) (λ parts. update_explained s parts (update_command ctx.role asked table parts))) all there (decided_so_far s ctx (statement.Update asked) id decides)) in
+update_found_meant laws s ctx asked wanted table places terms condition read there decides are placed set is =
+    let all : List Explained = explained_all wanted.long s ctx (statement.Update asked) in
+    let given = and_then_ok (update_parts s asked table) (λ parts. update_explained wanted.long s parts (update_command ctx.role asked table parts)) all
+    (behind_table asked.table (table_of s asked.table) table (λ table. and_then (update_parts s asked table) (λ parts. update_explained wanted.long s parts (update_command ctx.role asked table parts))) all there (decided_so_far s ctx (statement.Update asked) wanted decides)) in
     let parts : AnalysedUpdate = given.0 in
     let c : Command = update_command ctx.role asked table parts in
     let are_parts = update_parts_of s asked table parts given.1.0 in
-    let done = update_done s parts c all given.1.1 in
+    let done = update_done wanted.long s parts c all given.1.1 in
     let set_told = set_values s ((asked.table, table) ∷ []) table.columns asked.assignments in
     let placed_told = placed ∙ sym (set_places s ((asked.table, table) ∷ []) table.columns asked.assignments) ∙ ap places_of_update are_parts.assignments in
     let terms_told = set ∙ sym set_told ∙ ap (map (λ assignment. assignment.1)) are_parts.assignments in
     let same = is ∙ are_parts.condition in
-    let reading = reads_told s ctx (statement.Update asked) id c (scanned s c parts.condition) done.new read refl decides are done.same in
-    (λ i. update_found s ctx.role id table.columns (placed_told i) (terms_told i) (same i) (rows_at_key s asked.table (pinned_key ctx.role table.key (same i)))
+    let reading = reads_told s ctx (statement.Update asked) wanted c (scanned s c parts.condition) done.new read refl decides are done.same in
+    (λ i. update_found s ctx.role (asked.table, table) wanted table.columns (placed_told i) (terms_told i) (same i) (rows_at_key s asked.table (pinned_key ctx.role table.key (same i)))
     (expansion_found s ctx.role (asked.table, table) k.Update (reading i) (((λ j. all_tables (terms_told j) ++ tables_if (same j)) ∙ update_queried ctx.role asked table parts) i)))
-    ∙ update_meant laws s ctx.role asked table parts id all done
+    ∙ update_meant laws s ctx.role asked table parts wanted all done
 
 -- ---- INSERT
 
@@ -329,23 +347,23 @@ insert_parts_of s ctx asked table parts is =
     }
 
 -- what an INSERT that decides on a row comes so far with
-pub record InsertDone (s : State) (ctx : Ctx) (asked : Insert) (table : TableDef) (all : List Explained) : Type 0 where
+pub record InsertDone (long : Bool) (s : State) (ctx : Ctx) (asked : Insert) (table : TableDef) (all : List Explained) : Type 0 where
   pub parts : AnalysedInsert
   pub parts_are : insert_parts s ctx asked table ≡ Ok parts
   pub are_parts : AreInsertParts s ctx asked table parts
   pub permitted : permitted_in s (insert_command ctx.role asked table parts) ≡ Ok tt
   pub rows : List (List Value)
   pub made : each_of (row_of_tuple s (insert_command ctx.role asked table parts) parts.places) parts.tuples ≡ Ok rows
-  pub same : explained_rows s (insert_command ctx.role asked table parts) side.New (numbered table.key ctx.txn ctx.next rows) ≡ all
+  pub same : detailed long s (insert_command ctx.role asked table parts) (explained_rows s (insert_command ctx.role asked table parts) side.New (numbered table.key ctx.txn ctx.next rows)) ≡ all
 
-pub insert_done : (s : State) (ctx : Ctx) (asked : Insert) (id : RowId) (table : TableDef) → table_of s asked.table ≡ Some table → Decides s ctx (statement.Insert asked) id → InsertDone s ctx asked table (explained_all s ctx (statement.Insert asked))
-insert_done s ctx asked id table there decides =
-    let all : List Explained = explained_all s ctx (statement.Insert asked) in
-    let given = and_then_ok (insert_parts s ctx asked table) (λ parts. insert_explained s ctx parts (insert_command ctx.role asked table parts)) all
-    (behind_table asked.table (table_of s asked.table) table (λ table. and_then (insert_parts s ctx asked table) (λ parts. insert_explained s ctx parts (insert_command ctx.role asked table parts))) all there (decided_so_far s ctx (statement.Insert asked) id decides)) in
+pub insert_done : (s : State) (ctx : Ctx) (asked : Insert) (wanted : Wanted) (table : TableDef) → table_of s asked.table ≡ Some table → Decides s ctx (statement.Insert asked) wanted → InsertDone wanted.long s ctx asked table (explained_all wanted.long s ctx (statement.Insert asked))
+insert_done s ctx asked wanted table there decides =
+    let all : List Explained = explained_all wanted.long s ctx (statement.Insert asked) in
+    let given = and_then_ok (insert_parts s ctx asked table) (λ parts. insert_explained wanted.long s ctx parts (insert_command ctx.role asked table parts)) all
+    (behind_table asked.table (table_of s asked.table) table (λ table. and_then (insert_parts s ctx asked table) (λ parts. insert_explained wanted.long s ctx parts (insert_command ctx.role asked table parts))) all there (decided_so_far s ctx (statement.Insert asked) wanted decides)) in
     let parts : AnalysedInsert = given.0 in
     let c : Command = insert_command ctx.role asked table parts in
-    let end : List (List Value) → Result (List Explained) Refusal = λ rows. Ok (explained_rows s c side.New (numbered c.table.key ctx.txn ctx.next rows)) in
+    let end : List (List Value) → Result (List Explained) Refusal = λ rows. Ok (detailed wanted.long s c (explained_rows s c side.New (numbered c.table.key ctx.txn ctx.next rows))) in
     let first = and_then_ok (permitted_in s c) (λ _. and_then (each_of (row_of_tuple s c parts.places) parts.tuples) end) all given.1.1 in
     let second = and_then_ok (each_of (row_of_tuple s c parts.places) parts.tuples) end all first.1.1 in
     record {
@@ -355,7 +373,7 @@ insert_done s ctx asked id table there decides =
       permitted = first.1.0;
       rows = second.0;
       made = second.1.0;
-      same = ok_same (explained_rows s c side.New (numbered c.table.key ctx.txn ctx.next second.0)) all second.1.1;
+      same = ok_same (detailed wanted.long s c (explained_rows s c side.New (numbered c.table.key ctx.txn ctx.next second.0))) all second.1.1;
     }
 
 -- the tables of its subqueries
@@ -363,22 +381,25 @@ pub insert_queried : (role : List ℕ) (asked : Insert) (table : TableDef) (part
 insert_queried role asked table parts = sym (insert_named parts.found parts.tuples) ∙ ap tables (insert_queries parts.found parts.tuples)
 
 pub insert_found_meant : Laws → InsertIsFound
-insert_found_meant laws s ctx asked id table places tuples read there decides are placed set =
-    let all : List Explained = explained_all s ctx (statement.Insert asked) in
-    let done = insert_done s ctx asked id table there decides in
+insert_found_meant laws s ctx asked wanted table places tuples read there decides are placed set =
+    let all : List Explained = explained_all wanted.long s ctx (statement.Insert asked) in
+    let done = insert_done s ctx asked wanted table there decides in
     let parts : AnalysedInsert = done.parts in
     let c : Command = insert_command ctx.role asked table parts in
     let new : List Stored = numbered table.key ctx.txn ctx.next done.rows in
     let placed_told = placed ∙ done.are_parts.places in
     let tuples_told = set ∙ done.are_parts.tuples in
-    let reading = reads_told s ctx (statement.Insert asked) id c [] new read refl decides are done.same in
-    (λ i. insert_found s ctx.role id ctx.txn ctx.next table.columns (placed_told i) (tuples_told i)
+    let reading = reads_told s ctx (statement.Insert asked) wanted c [] new read refl decides are done.same in
+    (λ i. insert_found s ctx.role (asked.table, table) wanted ctx.txn ctx.next table.columns (placed_told i) (tuples_told i)
     (expansion_found s ctx.role (asked.table, table) k.Insert (reading i) ((ap tuples_tables tuples_told ∙ insert_queried ctx.role asked table parts) i)))
-    ∙ under_expansion s c (insert_found s ctx.role id ctx.txn ctx.next table.columns parts.places parts.tuples) (filter (is_on id) all) (laws.expanded s c) done.permitted
+    ∙ under_expansion s c (insert_found s ctx.role (asked.table, table) wanted ctx.txn ctx.next table.columns parts.places parts.tuples) (filter (is_on wanted) all) (laws.expanded s c) done.permitted
     (λ p expands.
-    tuples_meant laws s c p expands refl id parts.places ctx.txn ctx.next parts.tuples (λ name is. expands.looked name (ap (λ names. one_of names name) (sym (insert_queried ctx.role asked table parts)) ∙ is)) done.rows done.made
-    ∙ sym (own_explained s c side.New id new)
-    ∙ ap (filter (is_on id)) done.same)
+    ap (detailed_found s p.relations ctx.role (asked.table, table) wanted.long)
+    (tuples_meant laws s c p expands refl wanted parts.places ctx.txn ctx.next parts.tuples (λ name is. expands.looked name (ap (λ names. one_of names name) (sym (insert_queried ctx.role asked table parts)) ∙ is)) done.rows done.made)
+    ∙ detailed_meant laws s c p expands side.New (new_asked c refl) wanted.long (filter (is_row wanted) new)
+    ∙ ap (detailed wanted.long s c) (sym (own_explained s c side.New wanted new))
+    ∙ sym (detailed_kept wanted wanted.long s c (explained_rows s c side.New new))
+    ∙ ap (filter (is_on wanted)) done.same)
 
 pub insert_has_room : InsertHasRoom
-insert_has_room s ctx asked id table tuples there decides set = subst (λ all. ctx.next + length all ≤ 4294967295) (sym set) (insert_done s ctx asked id table there decides).are_parts.room
+insert_has_room s ctx asked wanted table tuples there decides set = subst (λ all. ctx.next + length all ≤ 4294967295) (sym set) (insert_done s ctx asked wanted table there decides).are_parts.room

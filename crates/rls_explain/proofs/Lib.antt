@@ -4,6 +4,9 @@ pub mod TruthLemmas
 pub mod AskingLemmas
 pub mod ResolvingLemmas
 pub mod CheckLemmas
+pub mod ReasonLemmas
+pub mod PartLemmas
+pub mod DetailLemmas
 pub mod RowLemmas
 pub mod FoundLemmas
 pub mod FateLemmas

@@ -33,6 +33,10 @@ flat_cond : {A B : Type 0} (b : Bool) (f : A → List B) (x : A) (rest : List A)
 flat_cond true f x rest = refl
 flat_cond false f x rest = refl
 
+map_cond : {A B : Type 0} (b : Bool) (f : A → B) (x : A) (xs : List A) → cond b (f x ∷ map f xs) (map f xs) ≡ map f (cond b (x ∷ xs) xs)
+map_cond true f x xs = refl
+map_cond false f x xs = refl
+
 -- the lists of those that pass
 pub flat_where : {A B : Type 0} (f : A → List B) (test : A → Bool) (xs : List A) → flat_map (λ x. if test x then f x else []) xs ≡ flat_map f (filter test xs)
 flat_where f test [] = refl
@@ -50,9 +54,19 @@ pub mapped : {A B C : Type 0} (g : B → C) (f : A → B) (xs : List A) → map 
 mapped g f [] = refl
 mapped g f (x ∷ xs) = ap (λ rest. g (f x) ∷ rest) (mapped g f xs)
 
+-- those that pass, of what is made of a list
+pub kept_map : {A B : Type 0} (test : B → Bool) (f : A → B) (xs : List A) → filter test (map f xs) ≡ map f (filter (λ x. test (f x)) xs)
+kept_map test f [] = refl
+kept_map test f (x ∷ xs) = ap (λ rest. cond (test (f x)) (f x ∷ rest) rest) (kept_map test f xs) ∙ map_cond (test (f x)) f x (filter (λ x. test (f x)) xs)
+
 -- where what is put, and what those that are left give, make the whole, they do so once the next one is put
 pub put_on : {A B : Type 0} (f : A → List B) (x : A) (before rest : List A) (old new whole : List B) → before ≡ x ∷ rest → new ≡ old ++ f x → old ++ flat_map f before ≡ whole → new ++ flat_map f rest ≡ whole
 put_on f x before rest old new whole is put so_far = ap (λ all. all ++ flat_map f rest) put ∙ append_assoc old (f x) (flat_map f rest) ∙ ap (λ left. old ++ flat_map f left) (sym is) ∙ so_far
+
+-- the same of what is made of each
+pub pushed_on : {A B : Type 0} (f : A → B) (x : A) (before rest : List A) (y : B) (old new whole : List B) → before ≡ x ∷ rest → y ≡ f x → new ≡ old ++ y ∷ [] → old ++ map f before ≡ whole → new ++ map f rest ≡ whole
+pushed_on f x before rest y old new whole is made put so_far =
+    ap (λ all. all ++ map f rest) put ∙ append_assoc old (y ∷ []) (map f rest) ∙ (λ i. old ++ made i ∷ map f rest) ∙ ap (λ left. old ++ map f left) (sym is) ∙ so_far
 
 -- ---- what calls give
 

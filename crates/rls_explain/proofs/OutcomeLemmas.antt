@@ -23,7 +23,7 @@ use Rattle.rls_explain.specs.declared.explanation.Explained.{Explained}
 use Rattle.rls_explain.specs.declared.outcome.{RowOutcome.RowOutcome, Reason.Reason, Fate.Fate, Met.Met}
 use Rattle.rls_explain.specs.declared.outcome.RowWord.TheVariants as w
 use Rattle.rls_explain.specs.Explaining.{decisions_of, explained_all, explained_on, explained_rows, insert_explained, scan_explained, unless_refused, update_explained}
-use Rattle.rls_explain.specs.Found.{Decides, are_read, expansion_found, explained_checks, is_decided, places_set, qualifying_found, row_written, unless_closing, value_found}
+use Rattle.rls_explain.specs.Found.{Decides, are_read, expansion_found, explained_checks, is_decided, on_row, places_set, qualifying_found, row_written, unless_closing, value_found}
 use Rattle.rls_explain.specs.FoundOutcomes.{DeleteIsTold, InsertIsTold, SelectIsTold, UpdateIsTold, changed_by, ended_told, fate_found, insert_told, inserted_by, refusal_told, refused_by, scan_told, scanned_found, stored_by, tells_new, told_of, tuple_written, tuples_told, update_told, updated_told, version_found, where_found}
 use Rattle.rls_explain.specs.Outcomes.{changed_as, denial_of, fate_by, fate_in, hiding_of, if_decided, insert_outcomes, inserted_rows, is_done, listed_as, met_as, outcomes_by, outcomes_in, refused_as, refused_rows, scan_outcomes, scanned_as, scanned_rows, update_outcomes, updated_as, updated_rows, where_in}
 use Rattle.rls_explain.proofs.{CheckLemmas.Laws, CheckLemmas.new_meant, CheckLemmas.old_meant, CheckLemmas.value_meant, DecidedLemmas.decided_so_far, RowLemmas.qualifying_meant, RowLemmas.values_set, RowLemmas.written_meant}
@@ -36,11 +36,11 @@ use Rattle.rls_explain.proofs.FoundLemmas.{AreInsertParts, AreUpdateParts, Inser
 pub nothing_decided : (s : State) (ctx : Ctx) (asked : Statement) (read : List Object) (decisions : List Decision) → decisions ≡ decisions_of (effect_of s ctx asked) → decisions ≡ [] → [] ≡ outcomes_in s ctx asked read
 nothing_decided s ctx asked read decisions are none = ap (λ found. if_decided found (told_of s ctx asked (is_done (effect_of s ctx asked)) read)) (sym none ∙ are)
 
-all_decided : (id : RowId) (decisions : List Decision) (rows : List RowOutcome) → is_decided id decisions ≡ true → rows ≡ if_decided decisions rows
+all_decided : (id : RowId) (decisions : List Decision) (rows : List RowOutcome) → is_decided (on_row id) decisions ≡ true → rows ≡ if_decided decisions rows
 all_decided id [] rows is = absurd (true≢false (sym is))
 all_decided id (decision ∷ decisions) rows is = refl
 
-pub some_decided : (s : State) (ctx : Ctx) (asked : Statement) (id : RowId) (done : Bool) (read : List Object) → Decides s ctx asked id → done ≡ is_done (effect_of s ctx asked) → told_of s ctx asked done read ≡ outcomes_in s ctx asked read
+pub some_decided : (s : State) (ctx : Ctx) (asked : Statement) (id : RowId) (done : Bool) (read : List Object) → Decides s ctx asked (on_row id) → done ≡ is_done (effect_of s ctx asked) → told_of s ctx asked done read ≡ outcomes_in s ctx asked read
 some_decided s ctx asked id done read decides is = ap (λ how. told_of s ctx asked how read) is ∙ all_decided id (decisions_of (effect_of s ctx asked)) (told_of s ctx asked (is_done (effect_of s ctx asked)) read) decides
 
 without_table : (name : List ℕ) (found : Option TableDef) (next : TableDef → Result (List RowOutcome) Refusal) → found ≡ None → [] ≡ unless_refused (and_then (found_or (Undefined kind.Relation name) found) next)
@@ -101,29 +101,29 @@ by_parts name found table analysed parts next there is =
 
 pub select_told : Laws → SelectIsTold
 select_told laws s ctx asked id table condition done read there decides is =
-    let all : List Explained = explained_all s ctx (statement.Select asked) in
+    let all : List Explained = explained_all false s ctx (statement.Select asked) in
     let met : Met = listed_as asked.items in
-    let came = and_then_ok (select_parts s asked table) (λ parts. scan_explained s (select_command ctx.role asked table parts) parts.condition) all
-    (behind_table asked.table (table_of s asked.table) table (λ table. and_then (select_parts s asked table) (λ parts. scan_explained s (select_command ctx.role asked table parts) parts.condition)) all there (decided_so_far s ctx (statement.Select asked) id decides)) in
+    let came = and_then_ok (select_parts s asked table) (λ parts. scan_explained false s (select_command ctx.role asked table parts) parts.condition) all
+    (behind_table asked.table (table_of s asked.table) table (λ table. and_then (select_parts s asked table) (λ parts. scan_explained false s (select_command ctx.role asked table parts) parts.condition)) all there (decided_so_far s ctx (statement.Select asked) (on_row id) decides)) in
     let parts : AnalysedSelect = came.0 in
     let c : Command = select_command ctx.role asked table parts in
     let same = is ∙ select_parts_of s asked table parts came.1.0 in
     let queried = ap tables_if same ∙ scan_queries parts.found parts.condition in
     (λ i. scan_told s ctx.role asked.table (same i) met read (queried i) (rows_at_key s asked.table (pinned_key ctx.role table.key (same i))) (expansion_found s ctx.role (asked.table, table) k.Select false (queried i)))
-    ∙ scan_is_told laws s c parts.condition met read refl (λ name is. ap (λ names. one_of names name) (sym (scan_queries parts.found parts.condition)) ∙ is) (scan_done s c parts.condition all came.1.1).0
+    ∙ scan_is_told laws s c parts.condition met read refl (λ name is. ap (λ names. one_of names name) (sym (scan_queries parts.found parts.condition)) ∙ is) (scan_done false s c parts.condition all came.1.1).0
     ∙ by_parts asked.table (table_of s asked.table) table (select_parts s asked) parts (λ table parts. scan_outcomes s (select_command ctx.role asked table parts) parts.condition met read) there came.1.0
 
 pub delete_told : Laws → DeleteIsTold
 delete_told laws s ctx asked id table condition reads done read there decides are is =
-    let all : List Explained = explained_all s ctx (statement.Delete asked) in
+    let all : List Explained = explained_all false s ctx (statement.Delete asked) in
     let met : Met = record { word = w.Deleted; returning = is_some asked.returning } in
-    let came = and_then_ok (delete_parts s asked table) (λ parts. scan_explained s (delete_command ctx.role asked table parts) parts.condition) all
-    (behind_table asked.table (table_of s asked.table) table (λ table. and_then (delete_parts s asked table) (λ parts. scan_explained s (delete_command ctx.role asked table parts) parts.condition)) all there (decided_so_far s ctx (statement.Delete asked) id decides)) in
+    let came = and_then_ok (delete_parts s asked table) (λ parts. scan_explained false s (delete_command ctx.role asked table parts) parts.condition) all
+    (behind_table asked.table (table_of s asked.table) table (λ table. and_then (delete_parts s asked table) (λ parts. scan_explained false s (delete_command ctx.role asked table parts) parts.condition)) all there (decided_so_far s ctx (statement.Delete asked) (on_row id) decides)) in
     let parts : AnalysedDelete = came.0 in
     let c : Command = delete_command ctx.role asked table parts in
     let same = is ∙ delete_parts_of s asked table parts came.1.0 in
-    let scan = scan_done s c parts.condition all came.1.1 in
-    let reading = reads_told s ctx (statement.Delete asked) id c (scanned s c parts.condition) [] reads refl decides are (append-nil (explained_rows s c side.Old (scanned s c parts.condition)) ∙ scan.1) in
+    let scan = scan_done false s c parts.condition all came.1.1 in
+    let reading = reads_told s ctx (statement.Delete asked) (on_row id) c (scanned s c parts.condition) [] reads refl decides are (append-nil (explained_rows s c side.Old (scanned s c parts.condition)) ∙ scan.1) in
     let queried = ap tables_if same ∙ scan_queries parts.found parts.condition in
     (λ i. scan_told s ctx.role asked.table (same i) met read (queried i) (rows_at_key s asked.table (pinned_key ctx.role table.key (same i))) (expansion_found s ctx.role (asked.table, table) k.Delete (reading i) (queried i)))
     ∙ scan_is_told laws s c parts.condition met read refl (λ name is. ap (λ names. one_of names name) (sym (scan_queries parts.found parts.condition)) ∙ is) scan.0
@@ -168,7 +168,7 @@ versions_told laws s c p expands judges assignments within olds news is =
     ∙ ap tells (ok_same (record { id = old.id; key = key_at c.table.key given.0; row = given.0 }) new given.1.1))
     olds news is
 
-update_under : Laws → (s : State) (role : List ℕ) (asked : Update) (table : TableDef) (parts : AnalysedUpdate) (returning done : Bool) (read : List Object) (all : List Explained) → UpdateDone s parts (update_command role asked table parts) all
+update_under : Laws → (s : State) (role : List ℕ) (asked : Update) (table : TableDef) (parts : AnalysedUpdate) (returning done : Bool) (read : List Object) (all : List Explained) → UpdateDone false s parts (update_command role asked table parts) all
     → updated_told s role asked.table table.columns (places_of_update parts.assignments) (map (λ assignment. assignment.1) parts.assignments) parts.condition returning done read (query_tables (update_command role asked table parts)) (scanned s (update_command role asked table parts) parts.condition) (unless_closing (expansion_in s (update_command role asked table parts)))
     ≡ unless_refused (update_outcomes s returning parts (update_command role asked table parts) done read)
 update_under laws s role asked table parts returning done read all came =
@@ -207,19 +207,19 @@ update_under laws s role asked table parts returning done read all came =
 
 pub update_told_meant : Laws → UpdateIsTold
 update_told_meant laws s ctx asked id table places terms condition reads done read there decides are placed set is =
-    let all : List Explained = explained_all s ctx (statement.Update asked) in
+    let all : List Explained = explained_all false s ctx (statement.Update asked) in
     let returning : Bool = is_some asked.returning in
-    let given = and_then_ok (update_parts s asked table) (λ parts. update_explained s parts (update_command ctx.role asked table parts)) all
-    (behind_table asked.table (table_of s asked.table) table (λ table. and_then (update_parts s asked table) (λ parts. update_explained s parts (update_command ctx.role asked table parts))) all there (decided_so_far s ctx (statement.Update asked) id decides)) in
+    let given = and_then_ok (update_parts s asked table) (λ parts. update_explained false s parts (update_command ctx.role asked table parts)) all
+    (behind_table asked.table (table_of s asked.table) table (λ table. and_then (update_parts s asked table) (λ parts. update_explained false s parts (update_command ctx.role asked table parts))) all there (decided_so_far s ctx (statement.Update asked) (on_row id) decides)) in
     let parts : AnalysedUpdate = given.0 in
     let c : Command = update_command ctx.role asked table parts in
     let are_parts = update_parts_of s asked table parts given.1.0 in
-    let came = update_done s parts c all given.1.1 in
+    let came = update_done false s parts c all given.1.1 in
     let set_told = set_values s ((asked.table, table) ∷ []) table.columns asked.assignments in
     let placed_told = placed ∙ sym (set_places s ((asked.table, table) ∷ []) table.columns asked.assignments) ∙ ap places_of_update are_parts.assignments in
     let terms_told = set ∙ sym set_told ∙ ap (map (λ assignment. assignment.1)) are_parts.assignments in
     let same = is ∙ are_parts.condition in
-    let reading = reads_told s ctx (statement.Update asked) id c (scanned s c parts.condition) came.new reads refl decides are came.same in
+    let reading = reads_told s ctx (statement.Update asked) (on_row id) c (scanned s c parts.condition) came.new reads refl decides are came.same in
     let queried = (λ j. all_tables (terms_told j) ++ tables_if (same j)) ∙ update_queried ctx.role asked table parts in
     (λ i. updated_told s ctx.role asked.table table.columns (placed_told i) (terms_told i) (same i) returning done read (queried i) (rows_at_key s asked.table (pinned_key ctx.role table.key (same i)))
     (expansion_found s ctx.role (asked.table, table) k.Update (reading i) (queried i)))
@@ -268,15 +268,15 @@ insert_under laws s ctx c returning false places tuples rows judges within made 
 
 pub insert_told_meant : Laws → InsertIsTold
 insert_told_meant laws s ctx asked id table places tuples reads done read there decides are placed set =
-    let all : List Explained = explained_all s ctx (statement.Insert asked) in
+    let all : List Explained = explained_all false s ctx (statement.Insert asked) in
     let returning : Bool = is_some asked.returning in
-    let came = insert_done s ctx asked id table there decides in
+    let came = insert_done s ctx asked (on_row id) table there decides in
     let parts : AnalysedInsert = came.parts in
     let c : Command = insert_command ctx.role asked table parts in
     let new : List Stored = numbered table.key ctx.txn ctx.next came.rows in
     let placed_told = placed ∙ came.are_parts.places in
     let tuples_same = set ∙ came.are_parts.tuples in
-    let reading = reads_told s ctx (statement.Insert asked) id c [] new reads refl decides are came.same in
+    let reading = reads_told s ctx (statement.Insert asked) (on_row id) c [] new reads refl decides are came.same in
     let queried = ap tuples_tables tuples_same ∙ insert_queried ctx.role asked table parts in
     (λ i. insert_told s ctx.role asked.table ctx.txn ctx.next table.columns (placed_told i) returning done read (queried i) (tuples_same i) (expansion_found s ctx.role (asked.table, table) k.Insert (reading i) (queried i)))
     ∙ under_expansion s c (insert_told s ctx.role asked.table ctx.txn ctx.next table.columns parts.places returning done read (query_tables c) parts.tuples) (inserted_rows s c returning done new ++ seen_in s c read) (laws.expanded s c) came.permitted

@@ -1,7 +1,7 @@
 -- What was resolved over the tables that were found for it is resolved over the tables of the state.
-use Rattle.std.specs.Prelude.{◌≡◌, refl, ℕ, List, [], ◌∷◌, ◌++◌, Option, map}
+use Rattle.std.specs.Prelude.{◌≡◌, refl, ℕ, List, [], ◌∷◌, ◌++◌, Option, Some, map}
 use Rattle.std.specs.List.{flat_map}
-use Rattle.std.specs.Option.{option_map, option_to_list}
+use Rattle.std.specs.Option.{option_map, option_map_or, option_to_list}
 use Rattle.std.proofs.Common.{ap, sym, ◌∙◌}
 use Rattle.rls_value.specs.Names.{one_of}
 use Rattle.rls_expr.specs.{Resolving.resolved as resolved_over, Scopes.InScope, Terms.Term}
@@ -10,7 +10,7 @@ use Rattle.rls_meaning.specs.rls_guard.specs.Naming.{names_over}
 use Rattle.rls_statement.specs.declared.changing.Assignment.{Assignment}
 use Rattle.rls_meaning.proofs.{Using.behind, Using.in_front}
 use Rattle.rls_meaning.specs.rls_dml.specs.{Checking.names_over_none, Inserting.tuple_resolved, Inserting.tuples_tables}
-use Rattle.rls_meaning.specs.rls_expansion.specs.Used.{all_tables, tables_if}
+use Rattle.rls_meaning.specs.rls_expansion.specs.Used.{all_tables, tables_if, tables_of as used_tables}
 use Rattle.rls_meaning.specs.{Parts.tables_of, Resolving.resolved}
 use Rattle.rls_meaning.proofs.{Analysing.tuples_told, Listing.flat_append, Parts.tables_if_told, Parts.tables_told, Resolving.each_resolved_told, Resolving.resolved_if_told}
 use Rattle.rls_explain.specs.Found.{found_by}
@@ -34,6 +34,10 @@ pub condition_resolved : (s : State) (from : InScope) (condition : Option Term) 
 condition_resolved s from condition names found named is =
     ap (λ found. option_map (λ t. resolved_over t (names_over from found)) condition) (is ∙ ap (found_by s) (named ∙ tables_if_told condition))
     ∙ resolved_if_told s (from ∷ []) (option_to_list condition) condition (λ name among. among)
+
+-- an expression, by those of its own
+pub expr_resolved : (s : State) (from : InScope) (t : Term) (names : List (List ℕ)) (found : List InScope) → names ≡ used_tables t → found ≡ found_by s names → resolved_over t (names_over from found) ≡ resolved s (from ∷ []) t
+expr_resolved s from t names found named is = ap (λ it. option_map_or (λ term. term) it t) (condition_resolved s from (Some t) names found named is)
 
 -- the tables of the subqueries in what is set, and in the condition
 set_and_where_tables : (terms : List Term) (condition : Option Term) → all_tables terms ++ tables_if condition ≡ flat_map tables_of (terms ++ option_to_list condition)

@@ -1,28 +1,32 @@
 -- How decisions on a row, and what policies say of it, are found again: through the relations of the command's policy expansion.
 -- The laws tell that this is what `Explaining` says.
 use Rattle.std.specs.Prelude.{◌≡◌, ◌≤◌, ◌+◌, ℕ, suc, List, [], ◌∷◌, ◌++◌, Option, Some, None, Bool, true, false, Result, Ok, Err, filter, length, map, unwrap_or, if◌then◌else◌}
-use Rattle.std.specs.List.{filter_map, flat_map, list_any}
+use Rattle.std.specs.List.{filter_map, flat_map, list_all, list_any}
 use Rattle.std.specs.Option.{option_map}
 use Rattle.rls_value.specs.{declared.refusal.Refusal.Refusal, declared.row.RowId.RowId, declared.truth.Truth.Truth, declared.value.Value.Value, declared.verb.Kind.Kind, Values.truth_in}
 use Rattle.rls_value.specs.declared.verb.Kind.TheVariants as k
-use Rattle.rls_expr.specs.{declared.policy.Policy.Policy, declared.table.Column.Column, declared.table.TableDef.TableDef, Scopes.InScope, Tables.column_named, Terms.Term}
-use Rattle.rls_meaning.specs.rls_guard.specs.rls_catalog.specs.{declared.stored.Stored.Stored, declared.verdict.Side.Side, State.State, State.is_same_id, State.table_of, Verdict.is_same_kind, Verdict.verdict_of}
+use Rattle.rls_expr.specs.{declared.policy.Policy.Policy, declared.table.Column.Column, declared.table.TableDef.TableDef, Scopes.InScope, Tables.column_named, Terms.Literal, Terms.Query, Terms.Term}
+use Rattle.rls_meaning.specs.rls_guard.specs.rls_catalog.specs.{declared.stored.Stored.Stored, declared.verdict.Side.Side, State.State, State.table_of, Verdict.is_same_kind, Verdict.verdict_of}
 use Rattle.rls_meaning.specs.rls_guard.specs.rls_catalog.specs.declared.verdict.Verdict.TheVariants as v
 use Rattle.rls_statement.specs.{declared.changing.Assignment.Assignment, declared.changing.Delete.Delete, declared.changing.Update.Update, declared.statement.Insert.Insert, declared.statement.Select.Select, declared.statement.Statement.Statement}
 use Rattle.rls_statement.specs.declared.statement.Statement.TheVariants as statement
-use Rattle.rls_meaning.specs.rls_guard.specs.rls_evaluation.specs.{declared.relation.SecurityQuals.SecurityQuals, declared.relation.SecurityQuals.TheVariants.Exempt, declared.relation.SecurityQuals.TheVariants.Policies, Environments.Environment, Environments.alone, Environments.over, Eval.Shows, Eval.value_of, Showing.shows, Tableless.value_given}
+use Rattle.rls_meaning.specs.rls_guard.specs.rls_evaluation.specs.{declared.relation.SecuredRelation.SecuredRelation, declared.relation.SecurityQuals.SecurityQuals, declared.relation.SecurityQuals.TheVariants.Exempt, declared.relation.SecurityQuals.TheVariants.Policies, Environments.Environment, Environments.alone, Environments.over, Eval.Shows, Eval.value_of, Showing.allows, Showing.shows, Tableless.value_given}
 use Rattle.rls_meaning.specs.rls_guard.specs.{declared.context.Ctx.Ctx, declared.quals.RowCheck.RowCheck, declared.reply.Decision.Decision, RolePrivileges.role_privileges_in}
 use Rattle.rls_judging.specs.{Judging.judged_all, ScannedRows.pinned_key}
 use Rattle.rls_meaning.specs.rls_dml.specs.{Inserting.nulls, Inserting.places_from, Inserting.tuples_tables, Writing.assigned}
 use Rattle.rls_meaning.specs.rls_expansion.specs.{declared.expansion.PolicyExpansion.PolicyExpansion, Expanding.expansion_of, Used.all_tables, Used.tables_if}
 use Rattle.rls_meaning.specs.{Meaning.effect_of, Resolving.resolved, Showing.rows_at_key}
-use Rattle.rls_explain.specs.{declared.explanation.Explained.Explained, Explaining.decisions_of, Explaining.explained_in, Explaining.said_as}
+use Rattle.rls_explain.specs.{declared.explanation.Explained.Explained, declared.explanation.Wanted.Wanted, declared.subterms.Subterm.Subterm, Details.Sight, Details.details_by, Details.selected_of, Explaining.decisions_of, Explaining.explained_in, Explaining.is_wanted, Explaining.said_as}
 
 -- ---- what is decided at all
 
--- one of the decisions is on the row of that number
-abbrev pub is_decided : RowId → List Decision → Bool
-is_decided id decisions = list_any (λ decision. is_same_id id decision.id) decisions
+-- those on the row of that number are wanted
+abbrev pub on_row : RowId → Wanted
+on_row id = record { row = Some id; long = false }
+
+-- one of the decisions is wanted
+abbrev pub is_decided : Wanted → List Decision → Bool
+is_decided wanted decisions = list_any (λ decision. is_wanted wanted decision.id) decisions
 
 -- one of them is for SELECT: the command reads its table
 abbrev pub are_read : List Decision → Bool
@@ -71,13 +75,13 @@ abbrev pub judgements_found : State → Shows → List ℕ → List Value → Li
 judgements_found s sees role row conditions = map (judgement_found s sees role row) conditions
 
 -- a decision by judgements, and these beside it
-abbrev pub explained_by : RowId → Side → Kind → List (Policy × Truth) → Explained
-explained_by id which kind judgements = record { decision = record { id = id; side = which; kind = kind; verdict = verdict_of judgements }; policies = map said_as judgements }
+abbrev pub explained_by : RowId → List Value → Side → Kind → List (Policy × Truth) → Explained
+explained_by id row which kind judgements = record { decision = record { id = id; side = which; kind = kind; verdict = verdict_of judgements }; policies = map said_as judgements; row = row; details = None }
 
 -- the same by quals
 abbrev pub explained_quals : State → Shows → List ℕ → RowId → List Value → Side → Kind → SecurityQuals → Explained
-explained_quals s sees role id row which kind Exempt = record { decision = record { id = id; side = which; kind = kind; verdict = v.Exempt }; policies = [] }
-explained_quals s sees role id row which kind (Policies conditions) = explained_by id which kind (judgements_found s sees role row conditions)
+explained_quals s sees role id row which kind Exempt = record { decision = record { id = id; side = which; kind = kind; verdict = v.Exempt }; policies = []; row = row; details = None }
+explained_quals s sees role id row which kind (Policies conditions) = explained_by id row which kind (judgements_found s sees role row conditions)
 
 -- by a row check
 abbrev pub explained_check : State → Shows → List ℕ → RowId → List Value → RowCheck → Explained
@@ -89,13 +93,13 @@ explained_checks s sees role row_checks id row = map (explained_check s sees rol
 
 -- ---- rows
 
--- the row has that number
-abbrev pub is_row : RowId → Stored → Bool
-is_row id stored = is_same_id id stored.id
+-- the row is wanted
+abbrev pub is_row : Wanted → Stored → Bool
+is_row wanted stored = is_wanted wanted stored.id
 
--- the decisions on the rows of that number
-abbrev pub rows_found : State → Shows → List ℕ → List RowCheck → RowId → List Stored → List Explained
-rows_found s sees role row_checks id rows = flat_map (λ stored. explained_checks s sees role row_checks stored.id stored.row) (filter (is_row id) rows)
+-- the decisions on the rows that are wanted
+abbrev pub rows_found : State → Shows → List ℕ → List RowCheck → Wanted → List Stored → List Explained
+rows_found s sees role row_checks wanted rows = flat_map (λ stored. explained_checks s sees role row_checks stored.id stored.row) (filter (is_row wanted) rows)
 
 -- the row with the values of the terms in the columns at these places, each in its column's range
 abbrev pub row_written : State → Shows → Environment → List Column → List ℕ → List Term → List Value → Result (List Value) Refusal
@@ -106,21 +110,70 @@ abbrev pub new_found : State → Shows → List ℕ → List RowCheck → RowId 
 new_found s sees role row_checks id (Ok row) = explained_checks s sees role row_checks id row
 new_found s sees role row_checks id (Err refusal) = []
 
--- those on the new versions of the rows of that number
-abbrev pub versions_found : State → Shows → List ℕ → List RowCheck → List Column → List ℕ → List Term → RowId → List Stored → List Explained
-versions_found s sees role row_checks columns places terms id rows =
-    flat_map (λ stored. new_found s sees role row_checks stored.id (row_written s sees (over role stored.row) columns places terms stored.row)) (filter (is_row id) rows)
+-- those on the new versions of the rows that are wanted
+abbrev pub versions_found : State → Shows → List ℕ → List RowCheck → List Column → List ℕ → List Term → Wanted → List Stored → List Explained
+versions_found s sees role row_checks columns places terms wanted rows =
+    flat_map (λ stored. new_found s sees role row_checks stored.id (row_written s sees (over role stored.row) columns places terms stored.row)) (filter (is_row wanted) rows)
 
--- those on the row of a tuple, if it has that number
-abbrev pub tuple_found : State → Shows → List ℕ → List RowCheck → List Column → List ℕ → RowId → RowId → List Term → List Explained
-tuple_found s sees role row_checks columns places id own tuple =
-    if is_same_id id own then new_found s sees role row_checks own (row_written s sees (alone role) columns places tuple (nulls columns)) else []
+-- those on the row of a tuple, if it is wanted
+abbrev pub tuple_found : State → Shows → List ℕ → List RowCheck → List Column → List ℕ → Wanted → RowId → List Term → List Explained
+tuple_found s sees role row_checks columns places wanted own tuple =
+    if is_wanted wanted own then new_found s sees role row_checks own (row_written s sees (alone role) columns places tuple (nulls columns)) else []
 
 -- those on the rows of the tuples, numbered on from this number
-abbrev pub tuples_found : State → Shows → List ℕ → List RowCheck → List Column → List ℕ → RowId → ℕ → ℕ → List (List Term) → List Explained
-tuples_found s sees role row_checks columns places id txn n [] = []
-tuples_found s sees role row_checks columns places id txn n (tuple ∷ tuples) =
-    tuple_found s sees role row_checks columns places id (record { txn = txn; n = n }) tuple ++ tuples_found s sees role row_checks columns places id txn (suc n) tuples
+abbrev pub tuples_found : State → Shows → List ℕ → List RowCheck → List Column → List ℕ → Wanted → ℕ → ℕ → List (List Term) → List Explained
+tuples_found s sees role row_checks columns places wanted txn n [] = []
+tuples_found s sees role row_checks columns places wanted txn n (tuple ∷ tuples) =
+    tuple_found s sees role row_checks columns places wanted (record { txn = txn; n = n }) tuple ++ tuples_found s sees role row_checks columns places wanted txn (suc n) tuples
+
+-- ---- what is told at length
+
+-- the row is allowed by each of the checks
+abbrev pub is_allowed : State → Shows → List ℕ → List RowCheck → Stored → Bool
+is_allowed s sees role row_checks stored = list_all (λ one. allows one.decision.verdict) (explained_checks s sees role row_checks stored.id stored.row)
+
+-- the rows that are shown under the policy expansion of who reads their table
+abbrev pub shown_under : State → List ℕ → List Stored → Option PolicyExpansion → List Stored
+shown_under s role rows (Some p) = filter (is_allowed s (shows p.relations role) role p.old) rows
+shown_under s role rows None = []
+
+-- those that the role is shown of the table
+abbrev pub shown_found : State → List ℕ → InScope → List Stored → List Stored
+shown_found s role from rows = shown_under s role rows (expansion_found s role from k.Select false [])
+
+-- the same, if it is there
+abbrev pub rows_shown_found : State → List ℕ → List ℕ → Option TableDef → List Stored → List Stored
+rows_shown_found s role name None rows = []
+rows_shown_found s role name (Some table) rows = shown_found s role (name, table) rows
+
+-- what expressions come to through the relations, and what is seen
+abbrev pub sight_found : State → List SecuredRelation → List ℕ → Sight
+sight_found s relations role = record {
+  value = value_found s (shows relations role);
+  seen = λ name key. rows_shown_found s role name (table_of s name) (rows_at_key s name key);
+}
+
+-- what a subquery selects of a row, as literals
+abbrev pub literals_of : Sight → Environment → Query → Stored → List Term
+literals_of sight env q stored = map Literal (selected_of sight env q stored)
+
+-- a part as the code has it
+abbrev pub subterm_of : Subterm → ℕ × Term
+subterm_of subterm = (subterm.level, subterm.expr.now)
+
+-- a decision on a row of the table with what is told of it
+abbrev pub with_details_found : State → List SecuredRelation → List ℕ → InScope → Explained → Explained
+with_details_found s relations role from one = record {
+  decision = one.decision;
+  policies = one.policies;
+  row = one.row;
+  details = Some (details_by s (sight_found s relations role) role from one.decision.side one.decision.kind one.row);
+}
+
+-- each of them, where that is wanted
+abbrev pub detailed_found : State → List SecuredRelation → List ℕ → InScope → Bool → List Explained → List Explained
+detailed_found s relations role from true explained = map (with_details_found s relations role from) explained
+detailed_found s relations role from false explained = explained
 
 -- ---- statements, under the policy expansion if there is one
 
@@ -134,63 +187,64 @@ abbrev pub qualifying_found : State → PolicyExpansion → List ℕ → Option 
 qualifying_found s p role condition scanned = qualifying_of ((judged_all p.old p.relations role condition scanned).in_state s).gives
 
 -- SELECT and DELETE
-abbrev pub scan_found : State → List ℕ → RowId → List Stored → Option PolicyExpansion → List Explained
-scan_found s role id scanned (Some p) = rows_found s (shows p.relations role) role p.old id scanned
-scan_found s role id scanned None = []
+abbrev pub scan_found : State → List ℕ → InScope → Wanted → List Stored → Option PolicyExpansion → List Explained
+scan_found s role from wanted scanned (Some p) = detailed_found s p.relations role from wanted.long (rows_found s (shows p.relations role) role p.old wanted scanned)
+scan_found s role from wanted scanned None = []
 
 -- UPDATE
-abbrev pub update_found : State → List ℕ → RowId → List Column → List ℕ → List Term → Option Term → List Stored → Option PolicyExpansion → List Explained
-update_found s role id columns places terms condition scanned (Some p) =
-    rows_found s (shows p.relations role) role p.old id scanned
-    ++ versions_found s (shows p.relations role) role p.new columns places terms id (qualifying_found s p role condition scanned)
-update_found s role id columns places terms condition scanned None = []
+abbrev pub update_found : State → List ℕ → InScope → Wanted → List Column → List ℕ → List Term → Option Term → List Stored → Option PolicyExpansion → List Explained
+update_found s role from wanted columns places terms condition scanned (Some p) =
+    detailed_found s p.relations role from wanted.long
+    (rows_found s (shows p.relations role) role p.old wanted scanned
+    ++ versions_found s (shows p.relations role) role p.new columns places terms wanted (qualifying_found s p role condition scanned))
+update_found s role from wanted columns places terms condition scanned None = []
 
 -- INSERT
-abbrev pub insert_found : State → List ℕ → RowId → ℕ → ℕ → List Column → List ℕ → List (List Term) → Option PolicyExpansion → List Explained
-insert_found s role id txn next columns places tuples (Some p) = tuples_found s (shows p.relations role) role p.new columns places id txn next tuples
-insert_found s role id txn next columns places tuples None = []
+abbrev pub insert_found : State → List ℕ → InScope → Wanted → ℕ → ℕ → List Column → List ℕ → List (List Term) → Option PolicyExpansion → List Explained
+insert_found s role from wanted txn next columns places tuples (Some p) = detailed_found s p.relations role from wanted.long (tuples_found s (shows p.relations role) role p.new columns places wanted txn next tuples)
+insert_found s role from wanted txn next columns places tuples None = []
 
 -- ---- what the laws say: what is found is what is meant
 
--- a statement on rows decides on a row of that number
-abbrev pub Decides : State → Ctx → Statement → RowId → Type 0
-Decides s ctx asked id = is_decided id (decisions_of (effect_of s ctx asked)) ≡ true
+-- a statement on rows has decisions that are wanted
+abbrev pub Decides : State → Ctx → Statement → Wanted → Type 0
+Decides s ctx asked wanted = is_decided wanted (decisions_of (effect_of s ctx asked)) ≡ true
 
 -- of a SELECT, whose alias or, without one, table's name qualifies its columns
 abbrev pub SelectIsFound : Type 0
 SelectIsFound =
-    (s : State) (ctx : Ctx) (asked : Select) (id : RowId) (table : TableDef) (condition : Option Term) → table_of s asked.table ≡ Some table → Decides s ctx (statement.Select asked) id
+    (s : State) (ctx : Ctx) (asked : Select) (wanted : Wanted) (table : TableDef) (condition : Option Term) → table_of s asked.table ≡ Some table → Decides s ctx (statement.Select asked) wanted
     → condition ≡ option_map (resolved s ((unwrap_or asked.alias asked.table, table) ∷ [])) asked.condition
-    → scan_found s ctx.role id (rows_at_key s asked.table (pinned_key ctx.role table.key condition)) (expansion_found s ctx.role (asked.table, table) k.Select false (tables_if condition))
-    ≡ explained_in s ctx (statement.Select asked) (Some id)
+    → scan_found s ctx.role (asked.table, table) wanted (rows_at_key s asked.table (pinned_key ctx.role table.key condition)) (expansion_found s ctx.role (asked.table, table) k.Select false (tables_if condition))
+    ≡ explained_in s ctx (statement.Select asked) (Some wanted)
 
 -- of a DELETE
 abbrev pub DeleteIsFound : Type 0
 DeleteIsFound =
-    (s : State) (ctx : Ctx) (asked : Delete) (id : RowId) (table : TableDef) (condition : Option Term) (reads : Bool) → table_of s asked.table ≡ Some table → Decides s ctx (statement.Delete asked) id
+    (s : State) (ctx : Ctx) (asked : Delete) (wanted : Wanted) (table : TableDef) (condition : Option Term) (reads : Bool) → table_of s asked.table ≡ Some table → Decides s ctx (statement.Delete asked) wanted
     → are_read (decisions_of (effect_of s ctx (statement.Delete asked))) ≡ reads → condition ≡ option_map (resolved s ((asked.table, table) ∷ [])) asked.condition
-    → scan_found s ctx.role id (rows_at_key s asked.table (pinned_key ctx.role table.key condition)) (expansion_found s ctx.role (asked.table, table) k.Delete reads (tables_if condition))
-    ≡ explained_in s ctx (statement.Delete asked) (Some id)
+    → scan_found s ctx.role (asked.table, table) wanted (rows_at_key s asked.table (pinned_key ctx.role table.key condition)) (expansion_found s ctx.role (asked.table, table) k.Delete reads (tables_if condition))
+    ≡ explained_in s ctx (statement.Delete asked) (Some wanted)
 
 -- of an UPDATE
 abbrev pub UpdateIsFound : Type 0
 UpdateIsFound =
-    (s : State) (ctx : Ctx) (asked : Update) (id : RowId) (table : TableDef) (places : List ℕ) (terms : List Term) (condition : Option Term) (reads : Bool) → table_of s asked.table ≡ Some table → Decides s ctx (statement.Update asked) id
+    (s : State) (ctx : Ctx) (asked : Update) (wanted : Wanted) (table : TableDef) (places : List ℕ) (terms : List Term) (condition : Option Term) (reads : Bool) → table_of s asked.table ≡ Some table → Decides s ctx (statement.Update asked) wanted
     → are_read (decisions_of (effect_of s ctx (statement.Update asked))) ≡ reads → places ≡ places_set table.columns asked.assignments
     → terms ≡ map (resolved s ((asked.table, table) ∷ [])) (map (λ assignment. assignment.value) asked.assignments) → condition ≡ option_map (resolved s ((asked.table, table) ∷ [])) asked.condition
-    → update_found s ctx.role id table.columns places terms condition (rows_at_key s asked.table (pinned_key ctx.role table.key condition)) (expansion_found s ctx.role (asked.table, table) k.Update reads (all_tables terms ++ tables_if condition))
-    ≡ explained_in s ctx (statement.Update asked) (Some id)
+    → update_found s ctx.role (asked.table, table) wanted table.columns places terms condition (rows_at_key s asked.table (pinned_key ctx.role table.key condition)) (expansion_found s ctx.role (asked.table, table) k.Update reads (all_tables terms ++ tables_if condition))
+    ≡ explained_in s ctx (statement.Update asked) (Some wanted)
 
 -- of an INSERT
 abbrev pub InsertIsFound : Type 0
 InsertIsFound =
-    (s : State) (ctx : Ctx) (asked : Insert) (id : RowId) (table : TableDef) (places : List ℕ) (tuples : List (List Term)) (reads : Bool) → table_of s asked.table ≡ Some table → Decides s ctx (statement.Insert asked) id
+    (s : State) (ctx : Ctx) (asked : Insert) (wanted : Wanted) (table : TableDef) (places : List ℕ) (tuples : List (List Term)) (reads : Bool) → table_of s asked.table ≡ Some table → Decides s ctx (statement.Insert asked) wanted
     → are_read (decisions_of (effect_of s ctx (statement.Insert asked))) ≡ reads → places ≡ places_given table.columns asked.columns → tuples ≡ map (map (resolved s [])) asked.tuples
-    → insert_found s ctx.role id ctx.txn ctx.next table.columns places tuples (expansion_found s ctx.role (asked.table, table) k.Insert reads (tuples_tables tuples))
-    ≡ explained_in s ctx (statement.Insert asked) (Some id)
+    → insert_found s ctx.role (asked.table, table) wanted ctx.txn ctx.next table.columns places tuples (expansion_found s ctx.role (asked.table, table) k.Insert reads (tuples_tables tuples))
+    ≡ explained_in s ctx (statement.Insert asked) (Some wanted)
 
 -- and its rows have numbers
 abbrev pub InsertHasRoom : Type 0
 InsertHasRoom =
-    (s : State) (ctx : Ctx) (asked : Insert) (id : RowId) (table : TableDef) (tuples : List (List Term)) → table_of s asked.table ≡ Some table → Decides s ctx (statement.Insert asked) id
+    (s : State) (ctx : Ctx) (asked : Insert) (wanted : Wanted) (table : TableDef) (tuples : List (List Term)) → table_of s asked.table ≡ Some table → Decides s ctx (statement.Insert asked) wanted
     → tuples ≡ map (map (resolved s [])) asked.tuples → ctx.next + length tuples ≤ 4294967295

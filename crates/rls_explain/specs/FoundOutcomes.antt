@@ -20,7 +20,7 @@ use Rattle.rls_explain.specs.declared.outcome.{RowWord.RowWord, Reason.Reason, R
 use Rattle.rls_explain.specs.declared.outcome.RowWord.TheVariants as w
 use Rattle.rls_explain.specs.declared.outcome.Fate.TheVariants as f
 use Rattle.rls_explain.specs.Explaining.{decisions_of}
-use Rattle.rls_explain.specs.Found.{Decides, are_read, expansion_found, explained_checks, places_given, places_set, qualifying_found, row_written, value_found}
+use Rattle.rls_explain.specs.Found.{Decides, are_read, expansion_found, explained_checks, on_row, places_given, places_set, qualifying_found, row_written, value_found}
 use Rattle.rls_explain.specs.Outcomes.{denial_of, fate_by, hiding_of, listed_as, met_as, outcomes_by, refused_as, scanned_as, told}
 use Rattle.rls_explain.specs.{Explaining.unless_refused, Seen.is_read, Seen.seen, Seen.tables_read}
 
@@ -168,21 +168,21 @@ told_of s ctx asked done read = unless_refused (outcomes_by s ctx asked done rea
 
 abbrev pub SelectIsTold : Type 0
 SelectIsTold =
-    (s : State) (ctx : Ctx) (asked : Select) (id : RowId) (table : TableDef) (condition : Option Term) (done : Bool) (read : List Object) → table_of s asked.table ≡ Some table → Decides s ctx (statement.Select asked) id
+    (s : State) (ctx : Ctx) (asked : Select) (id : RowId) (table : TableDef) (condition : Option Term) (done : Bool) (read : List Object) → table_of s asked.table ≡ Some table → Decides s ctx (statement.Select asked) (on_row id)
     → condition ≡ option_map (resolved s ((unwrap_or asked.alias asked.table, table) ∷ [])) asked.condition
     → scan_told s ctx.role asked.table condition (listed_as asked.items) read (tables_if condition) (rows_at_key s asked.table (pinned_key ctx.role table.key condition)) (expansion_found s ctx.role (asked.table, table) k.Select false (tables_if condition))
     ≡ told_of s ctx (statement.Select asked) done read
 
 abbrev pub DeleteIsTold : Type 0
 DeleteIsTold =
-    (s : State) (ctx : Ctx) (asked : Delete) (id : RowId) (table : TableDef) (condition : Option Term) (reads done : Bool) (read : List Object) → table_of s asked.table ≡ Some table → Decides s ctx (statement.Delete asked) id
+    (s : State) (ctx : Ctx) (asked : Delete) (id : RowId) (table : TableDef) (condition : Option Term) (reads done : Bool) (read : List Object) → table_of s asked.table ≡ Some table → Decides s ctx (statement.Delete asked) (on_row id)
     → are_read (decisions_of (effect_of s ctx (statement.Delete asked))) ≡ reads → condition ≡ option_map (resolved s ((asked.table, table) ∷ [])) asked.condition
     → scan_told s ctx.role asked.table condition (record { word = w.Deleted; returning = is_some asked.returning }) read (tables_if condition) (rows_at_key s asked.table (pinned_key ctx.role table.key condition)) (expansion_found s ctx.role (asked.table, table) k.Delete reads (tables_if condition))
     ≡ told_of s ctx (statement.Delete asked) done read
 
 abbrev pub UpdateIsTold : Type 0
 UpdateIsTold =
-    (s : State) (ctx : Ctx) (asked : Update) (id : RowId) (table : TableDef) (places : List ℕ) (terms : List Term) (condition : Option Term) (reads done : Bool) (read : List Object) → table_of s asked.table ≡ Some table → Decides s ctx (statement.Update asked) id
+    (s : State) (ctx : Ctx) (asked : Update) (id : RowId) (table : TableDef) (places : List ℕ) (terms : List Term) (condition : Option Term) (reads done : Bool) (read : List Object) → table_of s asked.table ≡ Some table → Decides s ctx (statement.Update asked) (on_row id)
     → are_read (decisions_of (effect_of s ctx (statement.Update asked))) ≡ reads → places ≡ places_set table.columns asked.assignments
     → terms ≡ map (resolved s ((asked.table, table) ∷ [])) (map (λ assignment. assignment.value) asked.assignments) → condition ≡ option_map (resolved s ((asked.table, table) ∷ [])) asked.condition
     → updated_told s ctx.role asked.table table.columns places terms condition (is_some asked.returning) done read (all_tables terms ++ tables_if condition) (rows_at_key s asked.table (pinned_key ctx.role table.key condition)) (expansion_found s ctx.role (asked.table, table) k.Update reads (all_tables terms ++ tables_if condition))
@@ -190,7 +190,7 @@ UpdateIsTold =
 
 abbrev pub InsertIsTold : Type 0
 InsertIsTold =
-    (s : State) (ctx : Ctx) (asked : Insert) (id : RowId) (table : TableDef) (places : List ℕ) (tuples : List (List Term)) (reads done : Bool) (read : List Object) → table_of s asked.table ≡ Some table → Decides s ctx (statement.Insert asked) id
+    (s : State) (ctx : Ctx) (asked : Insert) (id : RowId) (table : TableDef) (places : List ℕ) (tuples : List (List Term)) (reads done : Bool) (read : List Object) → table_of s asked.table ≡ Some table → Decides s ctx (statement.Insert asked) (on_row id)
     → are_read (decisions_of (effect_of s ctx (statement.Insert asked))) ≡ reads → places ≡ places_given table.columns asked.columns → tuples ≡ map (map (resolved s [])) asked.tuples
     → insert_told s ctx.role asked.table ctx.txn ctx.next table.columns places (is_some asked.returning) done read (tuples_tables tuples) tuples (expansion_found s ctx.role (asked.table, table) k.Insert reads (tuples_tables tuples))
     ≡ told_of s ctx (statement.Insert asked) done read

@@ -1,5 +1,7 @@
-pub mod Explaining
 pub mod Seen
+pub mod Details
+pub mod Explaining
+pub mod DetailLaws
 pub mod Outcomes
 pub mod Found
 pub mod FoundOutcomes

@@ -6,34 +6,33 @@ ghost use Rattle.rls_meaning.specs.Meaning.{effect_of};
 ghost use Rattle.rls_explain.specs.Explaining as spec;
 ghost use Rattle.rls_explain.specs.Found as found;
 
-use crate::explanation::{Explained, Explanation};
+use crate::explanation::{Explained, Explanation, Wanted};
 use crate::inserting::explain_insert;
-use crate::judging::is_same_id;
+use crate::judging::is_wanted;
 use crate::scanning::{explain_delete, explain_select};
 use crate::updating::explain_update;
 use rls_meaning::rls_access::{Ctx, Decision, Effect, Outcome, run_statement};
 use rls_meaning::rls_guard::rls_source::{RowSource, StatementSource};
 use rls_meaning::statement_means;
 use rls_statement::Statement;
-use rls_value::{Items, Kind, Name, RowId};
+use rls_value::{Items, Kind, Name};
 use std::alloc::{AllocError, Global};
 
-/// What the statement comes to and, of the row that is asked for, each decision with what policies say. The source is only
-/// read.
+/// What the statement comes to and, of those that are wanted, each decision with what policies say. The source is only read.
 pub fn explain_row<'c, S: StatementSource<'c> + Drop>(
     alloc: Global,
     source: &mut S,
     ctx: &Ctx,
     statement: &Statement,
-    row: Option<RowId>,
+    wanted: Option<Wanted>,
 ) -> Result<Explanation, AllocError>
     ensures role { IfOk result (λ explanation. explanation.role ≡ ctx.now.role) }
     ensures effect { IfOk result (λ explanation. explanation.effect ≡ effect_of (S.state source.old) ctx.now statement.now) }
-    ensures row { IfOk result (λ explanation. explanation.row ≡ spec.explained_in (S.state source.old) ctx.now statement.now row) }
+    ensures row { IfOk result (λ explanation. explanation.row ≡ spec.explained_in (S.state source.old) ctx.now statement.now wanted) }
     ensures state { S.state source.new ≡ S.state source.old }
 {
     let effect = effect_in(alloc, source, ctx, statement)?;
-    match role_and_row(alloc, source, ctx, statement, row, &effect) {
+    match role_and_row(alloc, source, ctx, statement, wanted, &effect) {
         Ok((role, row)) => Ok(Explanation { role, effect, row }),
         Err(refused) => {
             drop(effect);
@@ -63,21 +62,21 @@ fn effect_in<'c, S: StatementSource<'c> + Drop>(
     Ok(effect)
 }
 
-/// The role, and the decisions on the row.
+/// The role, and the decisions that are wanted.
 fn role_and_row<'c, S: RowSource<'c>>(
     alloc: Global,
     source: &mut S,
     ctx: &Ctx,
     statement: &Statement,
-    row: Option<RowId>,
+    wanted: Option<Wanted>,
     effect: &Effect,
 ) -> Result<(Name, Items<Explained>), AllocError>
     requires { effect.now ≡ effect_of (S.state source.old) ctx.now statement.now }
     ensures role { IfOk result (λ both. both.0 ≡ ctx.now.role) }
-    ensures row { IfOk result (λ both. both.1 ≡ spec.explained_in (S.state source.old) ctx.now statement.now row) }
+    ensures row { IfOk result (λ both. both.1 ≡ spec.explained_in (S.state source.old) ctx.now statement.now wanted) }
     ensures state { S.state source.new ≡ S.state source.old }
 {
-    let explained = explained_in(alloc, source, ctx, statement, row, effect)?;
+    let explained = explained_in(alloc, source, ctx, statement, wanted, effect)?;
     match ctx.role.copy() {
         Ok(role) => Ok((role, explained)),
         Err(refused) => {
@@ -92,15 +91,15 @@ fn explained_in<'c, S: RowSource<'c>>(
     source: &mut S,
     ctx: &Ctx,
     statement: &Statement,
-    row: Option<RowId>,
+    wanted: Option<Wanted>,
     effect: &Effect,
 ) -> Result<Items<Explained>, AllocError>
     requires { effect.now ≡ effect_of (S.state source.old) ctx.now statement.now }
-    ensures row { IfOk result (λ explained. explained ≡ spec.explained_in (S.state source.old) ctx.now statement.now row) }
+    ensures row { IfOk result (λ explained. explained ≡ spec.explained_in (S.state source.old) ctx.now statement.now wanted) }
     ensures state { S.state source.new ≡ S.state source.old }
 {
-    match row {
-        Some(id) => explain_own(alloc, source, ctx, statement, decisions_of(effect), id),
+    match wanted {
+        Some(wanted) => { explain_own(alloc, source, ctx, statement, decisions_of(effect), wanted) }
         None => Ok(Items::new(alloc)),
     }
 }
@@ -114,7 +113,7 @@ pub fn decisions_of(effect: &Effect) -> &[Decision]
     }
 }
 
-/// Explains the decisions on the row of that number, which are among these.
+/// Explains the decisions that are wanted, which are among these.
 #[tactic(auto, using(crate::proofs::DecidedLemmas::undecided))]
 fn explain_own<'c, S: RowSource<'c>>(
     alloc: Global,
@@ -122,24 +121,26 @@ fn explain_own<'c, S: RowSource<'c>>(
     ctx: &Ctx,
     statement: &Statement,
     decisions: &[Decision],
-    id: RowId,
+    wanted: Wanted,
 ) -> Result<Items<Explained>, AllocError>
     requires { decisions.now ≡ spec.decisions_of (effect_of (S.state source.old) ctx.now statement.now) }
-    ensures row { IfOk result (λ explained. explained ≡ spec.explained_in (S.state source.old) ctx.now statement.now (Some id)) }
+    ensures row { IfOk result (λ explained. explained ≡ spec.explained_in (S.state source.old) ctx.now statement.now (Some wanted)) }
     ensures state { S.state source.new ≡ S.state source.old }
 {
-    if is_decided(decisions, id) {
-        explain_decided(alloc, source, ctx, statement, are_read(decisions), id)
+    if is_decided(decisions, wanted) {
+        explain_decided(alloc, source, ctx, statement, are_read(decisions), wanted)
     } else {
         Ok(Items::new(alloc))
     }
 }
 
-/// Whether one of the decisions is on the row of that number.
-fn is_decided(decisions: &[Decision], id: RowId) -> bool
-    ensures { result ≡ found.is_decided id decisions.now }
+/// Whether one of the decisions is wanted.
+fn is_decided(decisions: &[Decision], wanted: Wanted) -> bool
+    ensures { result ≡ found.is_decided wanted decisions.now }
 {
-    decisions.iter().any(|decision| is_same_id(id, decision.id))
+    decisions
+        .iter()
+        .any(|decision| is_wanted(wanted, decision.id))
 }
 
 /// Whether one of them is for SELECT: the command reads its table.
@@ -158,7 +159,7 @@ fn is_select(kind: Kind) -> bool
     }
 }
 
-/// Explains a statement that decides on the row.
+/// Explains a statement with such decisions.
 #[tactic(auto, using(crate::proofs::DecidedLemmas::decides_on_none))]
 fn explain_decided<'c, S: RowSource<'c>>(
     alloc: Global,
@@ -166,18 +167,18 @@ fn explain_decided<'c, S: RowSource<'c>>(
     ctx: &Ctx,
     statement: &Statement,
     reads: bool,
-    id: RowId,
+    wanted: Wanted,
 ) -> Result<Items<Explained>, AllocError>
-    requires decided { found.is_decided id (spec.decisions_of (effect_of (S.state source.old) ctx.now statement.now)) ≡ true }
+    requires decided { found.is_decided wanted (spec.decisions_of (effect_of (S.state source.old) ctx.now statement.now)) ≡ true }
     requires reads { found.are_read (spec.decisions_of (effect_of (S.state source.old) ctx.now statement.now)) ≡ reads }
-    ensures row { IfOk result (λ explained. explained ≡ spec.explained_in (S.state source.old) ctx.now statement.now (Some id)) }
+    ensures row { IfOk result (λ explained. explained ≡ spec.explained_in (S.state source.old) ctx.now statement.now (Some wanted)) }
     ensures state { S.state source.new ≡ S.state source.old }
 {
     match statement {
-        Statement::Select(select) => explain_select(alloc, source, ctx, select, id),
-        Statement::Insert(insert) => explain_insert(alloc, source, ctx, insert, reads, id),
-        Statement::Update(update) => explain_update(alloc, source, ctx, update, reads, id),
-        Statement::Delete(delete) => explain_delete(alloc, source, ctx, delete, reads, id),
+        Statement::Select(select) => explain_select(alloc, source, ctx, select, wanted),
+        Statement::Insert(insert) => explain_insert(alloc, source, ctx, insert, reads, wanted),
+        Statement::Update(update) => explain_update(alloc, source, ctx, update, reads, wanted),
+        Statement::Delete(delete) => explain_delete(alloc, source, ctx, delete, reads, wanted),
         Statement::CreateRole(_)
         | Statement::AlterRole(_)
         | Statement::CreateTable(_)

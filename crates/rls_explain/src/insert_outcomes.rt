@@ -9,7 +9,7 @@ ghost use Rattle.rls_meaning.specs.rls_guard.specs.rls_evaluation.specs.Showing.
 ghost use Rattle.rls_meaning.specs.Meaning.{effect_of};
 ghost use Rattle.rls_meaning.specs.rls_dml.specs.Inserting.{tuples_tables};
 ghost use Rattle.rls_explain.specs.Explaining.{decisions_of};
-ghost use Rattle.rls_explain.specs.Found.{Decides, are_read, expansion_found};
+ghost use Rattle.rls_explain.specs.Found.{Decides, are_read, expansion_found, on_row};
 ghost use Rattle.rls_explain.specs.FoundOutcomes as finding;
 
 use crate::asking::{expansion_if, new_rows};
@@ -41,7 +41,7 @@ pub fn insert_outcomes<'c, S: RowSource<'c>>(
     read: &Footprint,
     id: RowId,
 ) -> Result<Items<RowOutcome>, AllocError>
-    requires decides { Decides (S.state source.old) ctx.now (asked.Insert insert.now) id }
+    requires decides { Decides (S.state source.old) ctx.now (asked.Insert insert.now) (on_row id) }
     requires reads { are_read (decisions_of (effect_of (S.state source.old) ctx.now (asked.Insert insert.now))) ≡ reads }
     ensures rows { IfOk result (λ rows. rows ≡ finding.told_of (S.state source.old) ctx.now (asked.Insert insert.now) done read.now) }
     ensures state { S.state source.new ≡ S.state source.old }
@@ -65,7 +65,7 @@ fn inserted_outcomes<'c, S: RowSource<'c>>(
     id: RowId,
 ) -> Result<Items<RowOutcome>, AllocError>
     requires there { table_of (S.state source.old) insert.now.table ≡ Some table.now }
-    requires decides { Decides (S.state source.old) ctx.now (asked.Insert insert.now) id }
+    requires decides { Decides (S.state source.old) ctx.now (asked.Insert insert.now) (on_row id) }
     requires reads { are_read (decisions_of (effect_of (S.state source.old) ctx.now (asked.Insert insert.now))) ≡ reads }
     ensures rows { IfOk result (λ rows. rows ≡ finding.told_of (S.state source.old) ctx.now (asked.Insert insert.now) done read.now) }
     ensures state { S.state source.new ≡ S.state source.old }

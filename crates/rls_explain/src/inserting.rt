@@ -12,8 +12,9 @@ ghost use Rattle.rls_explain.specs.Explaining.{decisions_of, explained_in};
 ghost use Rattle.rls_explain.specs.Found as spec;
 
 use crate::asking::{expansion_if, new_rows};
-use crate::explanation::Explained;
-use crate::judging::{is_same_id, put_row};
+use crate::detailing::detailed_if;
+use crate::explanation::{Explained, Wanted};
+use crate::judging::{is_wanted, put_row};
 use crate::laws::decisions_found;
 use crate::resolving::{InsertParts, insert_parts};
 use crate::writing::row_written;
@@ -27,7 +28,7 @@ use rls_statement::Insert;
 use rls_value::{Items, Kind, Refusal, Row, RowId, Value};
 use std::alloc::{AllocError, Global};
 
-/// Explains the decisions of an INSERT on the row of that number.
+/// Explains the decisions of an INSERT that are wanted.
 #[tactic(auto, using(crate::proofs::DecidedLemmas::insert_without_table))]
 pub fn explain_insert<'c, S: RowSource<'c>>(
     alloc: Global,
@@ -35,15 +36,15 @@ pub fn explain_insert<'c, S: RowSource<'c>>(
     ctx: &Ctx,
     insert: &Insert,
     reads: bool,
-    id: RowId,
+    wanted: Wanted,
 ) -> Result<Items<Explained>, AllocError>
-    requires decided { spec.is_decided id (decisions_of (effect_of (S.state source.old) ctx.now (asked.Insert insert.now))) ≡ true }
+    requires decided { spec.is_decided wanted (decisions_of (effect_of (S.state source.old) ctx.now (asked.Insert insert.now))) ≡ true }
     requires reads { spec.are_read (decisions_of (effect_of (S.state source.old) ctx.now (asked.Insert insert.now))) ≡ reads }
-    ensures row { IfOk result (λ explained. explained ≡ explained_in (S.state source.old) ctx.now (asked.Insert insert.now) (Some id)) }
+    ensures row { IfOk result (λ explained. explained ≡ explained_in (S.state source.old) ctx.now (asked.Insert insert.now) (Some wanted)) }
     ensures state { S.state source.new ≡ S.state source.old }
 {
     match source.table(alloc, &insert.table)? {
-        Some(table) => explain_inserted(alloc, source, ctx, insert, table, reads, id),
+        Some(table) => explain_inserted(alloc, source, ctx, insert, table, reads, wanted),
         None => Ok(Items::new(alloc)),
     }
 }
@@ -56,12 +57,12 @@ fn explain_inserted<'c, S: RowSource<'c>>(
     insert: &Insert,
     table: &TableDef,
     reads: bool,
-    id: RowId,
+    wanted: Wanted,
 ) -> Result<Items<Explained>, AllocError>
     requires there { table_of (S.state source.old) insert.now.table ≡ Some table.now }
-    requires decided { spec.is_decided id (decisions_of (effect_of (S.state source.old) ctx.now (asked.Insert insert.now))) ≡ true }
+    requires decided { spec.is_decided wanted (decisions_of (effect_of (S.state source.old) ctx.now (asked.Insert insert.now))) ≡ true }
     requires reads { spec.are_read (decisions_of (effect_of (S.state source.old) ctx.now (asked.Insert insert.now))) ≡ reads }
-    ensures row { IfOk result (λ explained. explained ≡ explained_in (S.state source.old) ctx.now (asked.Insert insert.now) (Some id)) }
+    ensures row { IfOk result (λ explained. explained ≡ explained_in (S.state source.old) ctx.now (asked.Insert insert.now) (Some wanted)) }
     ensures state { S.state source.new ≡ S.state source.old }
 {
     decisions_found();
@@ -70,7 +71,7 @@ fn explain_inserted<'c, S: RowSource<'c>>(
         table,
     };
     let parts = insert_parts(alloc, source, table, insert)?;
-    let explained = explain_parts(alloc, source, ctx, from, &parts, reads, id);
+    let explained = explain_parts(alloc, source, ctx, from, &parts, reads, wanted);
     drop(parts);
     explained
 }
@@ -83,10 +84,10 @@ fn explain_parts<'c, 'x, S: RowSource<'c>>(
     from: FromTable<'x>,
     parts: &InsertParts,
     reads: bool,
-    id: RowId,
+    wanted: Wanted,
 ) -> Result<Items<Explained>, AllocError>
     requires { ctx.now.next + length parts.now.tuples ≤ 4294967295 }
-    ensures row { IfOk result (λ explained. explained ≡ spec.insert_found (S.state source.old) ctx.now.role id ctx.now.txn ctx.now.next from.entry.table.now.columns parts.now.places.items parts.now.tuples (spec.expansion_found (S.state source.old) ctx.now.role (in_scope from.entry) Kind.Insert reads (tuples_tables parts.now.tuples))) }
+    ensures row { IfOk result (λ explained. explained ≡ spec.insert_found (S.state source.old) ctx.now.role (in_scope from.entry) wanted ctx.now.txn ctx.now.next from.entry.table.now.columns parts.now.places.items parts.now.tuples (spec.expansion_found (S.state source.old) ctx.now.role (in_scope from.entry) Kind.Insert reads (tuples_tables parts.now.tuples))) }
     ensures state { S.state source.new ≡ S.state source.old }
 {
     let queries = parts.tables(alloc)?;
@@ -102,45 +103,50 @@ fn explain_parts<'c, 'x, S: RowSource<'c>>(
     );
     drop(queries);
     let found = found?;
-    let explained = explain_if(alloc, &*source, ctx, from.table, parts, id, &found);
+    let explained = explain_if(alloc, source, ctx, from, parts, wanted, &found);
     drop(found);
     explained
 }
 
 /// The same under the policy expansion, if there is one.
-fn explain_if<'c, S: RowSource<'c>>(
+fn explain_if<'c, 'x, S: RowSource<'c>>(
     alloc: Global,
-    source: &S,
+    source: &mut S,
     ctx: &Ctx,
-    table: &TableDef,
+    from: FromTable<'x>,
     parts: &InsertParts,
-    id: RowId,
+    wanted: Wanted,
     found: &Option<PolicyExpansion<'c>>,
 ) -> Result<Items<Explained>, AllocError>
     requires { ctx.now.next + length parts.now.tuples ≤ 4294967295 }
-    ensures { IfOk result (λ explained. explained ≡ spec.insert_found (S.state source.now) ctx.now.role id ctx.now.txn ctx.now.next table.now.columns parts.now.places.items parts.now.tuples found.now) }
+    ensures row { IfOk result (λ explained. explained ≡ spec.insert_found (S.state source.old) ctx.now.role (in_scope from.entry) wanted ctx.now.txn ctx.now.next from.entry.table.now.columns parts.now.places.items parts.now.tuples found.now) }
+    ensures state { S.state source.new ≡ S.state source.old }
 {
     match found {
-        Some(expansion) => explain_under(alloc, source, ctx, table, parts, id, expansion),
+        Some(expansion) => explain_under(alloc, source, ctx, from, parts, wanted, expansion),
         None => Ok(Items::new(alloc)),
     }
 }
 
-fn explain_under<'c, S: RowSource<'c>>(
+fn explain_under<'c, 'x, S: RowSource<'c>>(
     alloc: Global,
-    source: &S,
+    source: &mut S,
     ctx: &Ctx,
-    table: &TableDef,
+    from: FromTable<'x>,
     parts: &InsertParts,
-    id: RowId,
+    wanted: Wanted,
     expansion: &PolicyExpansion<'c>,
 ) -> Result<Items<Explained>, AllocError>
     requires { ctx.now.next + length parts.now.tuples ≤ 4294967295 }
-    ensures { IfOk result (λ explained. explained ≡ spec.insert_found (S.state source.now) ctx.now.role id ctx.now.txn ctx.now.next table.now.columns parts.now.places.items parts.now.tuples (Some expansion.now)) }
+    ensures row { IfOk result (λ explained. explained ≡ spec.insert_found (S.state source.old) ctx.now.role (in_scope from.entry) wanted ctx.now.txn ctx.now.next from.entry.table.now.columns parts.now.places.items parts.now.tuples (Some expansion.now)) }
+    ensures state { S.state source.new ≡ S.state source.old }
 {
-    let context = new_rows(expansion, &ctx.role);
-    let columns = table.columns.as_slice();
-    explain_tuples(alloc, source, ctx, context, columns, parts, id)
+    let role = &ctx.role;
+    let context = new_rows(expansion, role);
+    let columns = from.table.columns.as_slice();
+    let explained = explain_tuples(alloc, &*source, ctx, context, columns, parts, wanted)?;
+    let relations = expansion.relations.as_slice();
+    detailed_if(alloc, source, wanted.long, role, from, relations, explained)
 }
 
 /// The rows are numbered on from the transaction's next.
@@ -151,17 +157,17 @@ fn explain_tuples<'a, 'c, S: RowSource<'c>>(
     context: CheckContext<'a, 'c>,
     columns: &[Column],
     parts: &InsertParts,
-    id: RowId,
-) -> Result<Items<Explained>, AllocError>
+    wanted: Wanted,
+) -> Result<Vec<Explained>, AllocError>
     requires { ctx.now.next + length parts.now.tuples ≤ 4294967295 }
-    ensures { IfOk result (λ explained. explained ≡ spec.tuples_found (S.state source.now) (shows context.entry.relations.now context.entry.role.now) context.entry.role.now context.entry.row_checks.now columns.now parts.now.places.items id ctx.now.txn ctx.now.next parts.now.tuples) }
+    ensures { IfOk result (λ explained. explained.items ≡ spec.tuples_found (S.state source.now) (shows context.entry.relations.now context.entry.role.now) context.entry.role.now context.entry.row_checks.now columns.now parts.now.places.items wanted ctx.now.txn ctx.now.next parts.now.tuples) }
 {
     let mut explained = Vec::new(alloc);
     let mut n = ctx.next;
     for tuple in parts.tuples.as_slice() {
         let own = RowId { txn: ctx.txn, n };
         let places = parts.places.as_slice();
-        if is_same_id(id, own) {
+        if is_wanted(wanted, own) {
             put_new(
                 alloc,
                 source,
@@ -175,7 +181,7 @@ fn explain_tuples<'a, 'c, S: RowSource<'c>>(
         }
         n += 1;
     }
-    Ok(Items::from_vec(explained))
+    Ok(explained)
 }
 
 /// Explains the decisions on the row of the tuple; none where a value is out of range.

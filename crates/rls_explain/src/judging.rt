@@ -7,7 +7,7 @@ ghost use Rattle.rls_meaning.specs.rls_guard.specs.rls_evaluation.specs.{Environ
 ghost use Rattle.rls_explain.specs.Explaining as meant;
 ghost use Rattle.rls_explain.specs.Found as spec;
 
-use crate::explanation::{Explained, Said};
+use crate::explanation::{Explained, Said, Wanted};
 use rls_expr::{Expr, Policy};
 use rls_judging::CheckContext;
 use rls_meaning::rls_guard::rls_catalog::{BorrowedRow, Side, Verdict};
@@ -18,23 +18,23 @@ use rls_meaning::rls_guard::rls_evaluation::{
 use rls_meaning::rls_guard::rls_policy::combine;
 use rls_meaning::rls_guard::rls_source::RowSource;
 use rls_meaning::rls_guard::{Decision, Judgement, RowCheck};
-use rls_value::{Items, Kind, Name, Reference, Row, RowId, Truth};
+use rls_value::{Items, Kind, Name, Reference, Row, RowId, Truth, or_drop};
 use std::alloc::{AllocError, Global};
 use std::cmp::Ordering;
 
-/// Explains the decisions on the rows of that number, behind those that are there.
+/// Explains the decisions on the rows that are wanted, behind those that are there.
 pub fn put_rows<'a, 'c, S: RowSource<'c>>(
     alloc: Global,
     source: &S,
     context: CheckContext<'a, 'c>,
-    id: RowId,
+    wanted: Wanted,
     rows: &[BorrowedRow<'c>],
     explained: &mut Vec<Explained>,
 ) -> Result<(), AllocError>
-    ensures { OnOk result (explained.new.items ≡ explained.old.items ++ spec.rows_found (S.state source.now) (shows context.entry.relations.now context.entry.role.now) context.entry.role.now context.entry.row_checks.now id rows.now) }
+    ensures { OnOk result (explained.new.items ≡ explained.old.items ++ spec.rows_found (S.state source.now) (shows context.entry.relations.now context.entry.role.now) context.entry.role.now context.entry.row_checks.now wanted rows.now) }
 {
     for stored in rows {
-        if is_same_id(id, stored.id()) {
+        if is_wanted(wanted, stored.id()) {
             put_row(alloc, source, context, stored.id(), stored.row(), explained)?;
         }
     }
@@ -90,11 +90,13 @@ fn explain_check<'c, S: RowSource<'c>>(
                 verdict: Verdict::Exempt,
             },
             policies: Items::new(alloc),
+            row: row.copy(alloc)?,
+            details: None,
         }),
         SecurityQuals::Policies(conditions) => {
             let conditions = conditions.as_slice();
             let judgements = judgements_on(alloc, source, relations, role, row, conditions)?;
-            let one = explain_by(alloc, id, side, kind, &judgements);
+            let one = explain_by(alloc, id, row, side, kind, &judgements);
             drop(judgements);
             one
         }
@@ -105,13 +107,15 @@ fn explain_check<'c, S: RowSource<'c>>(
 fn explain_by(
     alloc: Global,
     id: RowId,
+    row: &Row,
     side: Side,
     kind: Kind,
     judgements: &[Judgement<'_>],
 ) -> Result<Explained, AllocError>
-    ensures { IfOk result (λ one. one ≡ spec.explained_by id side kind judgements.now) }
+    ensures { IfOk result (λ one. one ≡ spec.explained_by id row.now side kind judgements.now) }
 {
-    let policies = said_by_each(alloc, judgements)?;
+    let row = row.copy(alloc)?;
+    let policies = or_drop!(said_by_each(alloc, judgements), row);
     match combine(judgements) {
         Ok(verdict) => Ok(Explained {
             decision: Decision {
@@ -121,8 +125,11 @@ fn explain_by(
                 verdict,
             },
             policies,
+            row,
+            details: None,
         }),
         Err(refused) => {
+            drop(row);
             drop(policies);
             Err(refused)
         }
@@ -234,7 +241,17 @@ fn truth_over<'a, 'c, T: Tables>(
     Ok(datum.truth())
 }
 
-pub fn is_same_id(id: RowId, other: RowId) -> bool
+/// Whether decisions on the row of that number are wanted.
+pub fn is_wanted(wanted: Wanted, id: RowId) -> bool
+    ensures { result ≡ meant.is_wanted wanted id }
+{
+    match wanted.row {
+        Some(row) => is_same_id(row, id),
+        None => true,
+    }
+}
+
+fn is_same_id(id: RowId, other: RowId) -> bool
     ensures { result ≡ state.is_same_id id other }
 {
     match id.cmp(&other) {

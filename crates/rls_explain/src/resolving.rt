@@ -6,7 +6,7 @@ ghost use Rattle.rls_expr.specs.{Scopes.in_scope, Resolving.resolved as resolved
 ghost use Rattle.rls_meaning.specs.rls_guard.specs.Naming.{names_over};
 ghost use Rattle.rls_meaning.specs.Resolving.{resolved};
 ghost use Rattle.rls_meaning.specs.rls_dml.specs.{Checking.names_over_none, Inserting.places_from, Inserting.tuple_resolved, Inserting.tuples_tables};
-ghost use Rattle.rls_meaning.specs.rls_expansion.specs.Used.{all_tables, tables_if};
+ghost use Rattle.rls_meaning.specs.rls_expansion.specs.Used.{all_tables, tables_if, tables_of as spec_tables_of};
 ghost use Rattle.rls_explain.specs.Found as spec;
 
 use rls_expr::{Column, Expr, FromTable, NamedTable, Scope, TableDef, resolve_columns};
@@ -71,6 +71,34 @@ pub fn condition_in<'c, 'x, S: RowSource<'c>>(
     let condition = condition_over(alloc, from, found.as_slice(), condition);
     drop(found);
     condition
+}
+
+/// The expression, which is over the table.
+#[tactic(auto, using(crate::proofs::ResolvingLemmas::expr_resolved))]
+pub fn expr_in<'c, 'x, S: RowSource<'c>>(
+    alloc: Global,
+    source: &mut S,
+    from: FromTable<'x>,
+    expr: &Expr,
+) -> Result<Expr, AllocError>
+    ensures expr { IfOk result (λ it. it ≡ resolved (S.state source.old) (in_scope from.entry ∷ []) expr.now) }
+    ensures state { S.state source.new ≡ S.state source.old }
+{
+    let names = tables_of_expr(alloc, expr)?;
+    let found = found_for(alloc, source, names.as_slice());
+    drop(names);
+    let found = found?;
+    let resolved = expr_over(alloc, from, found.as_slice(), expr);
+    drop(found);
+    resolved
+}
+
+fn tables_of_expr(alloc: Global, expr: &Expr) -> Result<Items<Name>, AllocError>
+    ensures { IfOk result (λ tables. tables ≡ spec_tables_of expr.now) }
+{
+    let mut tables = Items::new(alloc);
+    put_tables(alloc, &mut tables, expr)?;
+    Ok(tables)
 }
 
 /// The tables of the condition's subqueries, in text order.

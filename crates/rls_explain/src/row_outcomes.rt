@@ -3,7 +3,7 @@
 ghost use Rattle.std.specs.Prelude.{◌≡◌, [], ◌∷◌, true, IfOk, IfSome, IfNone};
 ghost use Rattle.rls_meaning.specs.Meaning.{effect_of};
 ghost use Rattle.rls_explain.specs.Explaining.{decisions_of as spec_decisions_of};
-ghost use Rattle.rls_explain.specs.Found.{Decides, are_read as spec_are_read, is_decided};
+ghost use Rattle.rls_explain.specs.Found.{Decides, are_read as spec_are_read, is_decided, on_row};
 ghost use Rattle.rls_explain.specs.FoundOutcomes.{told_of};
 ghost use Rattle.rls_explain.specs.Outcomes as spec;
 
@@ -51,7 +51,7 @@ pub fn outcomes<'c, S: RowSource<'c>>(
 
 /// The row that is decided on first.
 fn first_id(decisions: &[Decision]) -> Option<RowId>
-    ensures some { IfSome result (λ id. is_decided id decisions.now ≡ true) }
+    ensures some { IfSome result (λ id. is_decided (on_row id) decisions.now ≡ true) }
     ensures none { IfNone result (decisions.now ≡ []) }
 {
     match decisions {
@@ -81,7 +81,7 @@ fn outcomes_decided<'c, S: RowSource<'c>>(
     read: &Footprint,
     id: RowId,
 ) -> Result<Items<RowOutcome>, AllocError>
-    requires decides { Decides (S.state source.old) ctx.now statement.now id }
+    requires decides { Decides (S.state source.old) ctx.now statement.now (on_row id) }
     requires reads { spec_are_read (spec_decisions_of (effect_of (S.state source.old) ctx.now statement.now)) ≡ reads }
     ensures rows { IfOk result (λ rows. rows ≡ told_of (S.state source.old) ctx.now statement.now done read.now) }
     ensures state { S.state source.new ≡ S.state source.old }

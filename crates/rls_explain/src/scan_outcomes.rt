@@ -9,7 +9,7 @@ ghost use Rattle.rls_judging.specs.ScannedRows.{pinned_key};
 ghost use Rattle.rls_meaning.specs.{Meaning.effect_of, Showing.rows_at_key};
 ghost use Rattle.rls_meaning.specs.rls_expansion.specs.Used.{tables_if};
 ghost use Rattle.rls_explain.specs.Explaining.{decisions_of};
-ghost use Rattle.rls_explain.specs.Found.{Decides, are_read, expansion_found};
+ghost use Rattle.rls_explain.specs.Found.{Decides, are_read, expansion_found, on_row};
 ghost use Rattle.rls_explain.specs.FoundOutcomes as finding;
 ghost use Rattle.rls_explain.specs.Outcomes as spec;
 
@@ -41,7 +41,7 @@ pub fn select_outcomes<'c, S: RowSource<'c>>(
     read: &Footprint,
     id: RowId,
 ) -> Result<Items<RowOutcome>, AllocError>
-    requires decides { Decides (S.state source.old) ctx.now (asked.Select select.now) id }
+    requires decides { Decides (S.state source.old) ctx.now (asked.Select select.now) (on_row id) }
     ensures rows { IfOk result (λ rows. rows ≡ finding.told_of (S.state source.old) ctx.now (asked.Select select.now) done read.now) }
     ensures state { S.state source.new ≡ S.state source.old }
 {
@@ -63,7 +63,7 @@ fn selected_outcomes<'c, S: RowSource<'c>>(
     id: RowId,
 ) -> Result<Items<RowOutcome>, AllocError>
     requires there { table_of (S.state source.old) select.now.table ≡ Some table.now }
-    requires decides { Decides (S.state source.old) ctx.now (asked.Select select.now) id }
+    requires decides { Decides (S.state source.old) ctx.now (asked.Select select.now) (on_row id) }
     ensures rows { IfOk result (λ rows. rows ≡ finding.told_of (S.state source.old) ctx.now (asked.Select select.now) done read.now) }
     ensures state { S.state source.new ≡ S.state source.old }
 {
@@ -112,7 +112,7 @@ pub fn delete_outcomes<'c, S: RowSource<'c>>(
     read: &Footprint,
     id: RowId,
 ) -> Result<Items<RowOutcome>, AllocError>
-    requires decides { Decides (S.state source.old) ctx.now (asked.Delete delete.now) id }
+    requires decides { Decides (S.state source.old) ctx.now (asked.Delete delete.now) (on_row id) }
     requires reads { are_read (decisions_of (effect_of (S.state source.old) ctx.now (asked.Delete delete.now))) ≡ reads }
     ensures rows { IfOk result (λ rows. rows ≡ finding.told_of (S.state source.old) ctx.now (asked.Delete delete.now) done read.now) }
     ensures state { S.state source.new ≡ S.state source.old }
@@ -136,7 +136,7 @@ fn deleted_outcomes<'c, S: RowSource<'c>>(
     id: RowId,
 ) -> Result<Items<RowOutcome>, AllocError>
     requires there { table_of (S.state source.old) delete.now.table ≡ Some table.now }
-    requires decides { Decides (S.state source.old) ctx.now (asked.Delete delete.now) id }
+    requires decides { Decides (S.state source.old) ctx.now (asked.Delete delete.now) (on_row id) }
     requires reads { are_read (decisions_of (effect_of (S.state source.old) ctx.now (asked.Delete delete.now))) ≡ reads }
     ensures rows { IfOk result (λ rows. rows ≡ finding.told_of (S.state source.old) ctx.now (asked.Delete delete.now) done read.now) }
     ensures state { S.state source.new ≡ S.state source.old }

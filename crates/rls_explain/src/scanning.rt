@@ -11,7 +11,8 @@ ghost use Rattle.rls_explain.specs.Explaining.{decisions_of, explained_in};
 ghost use Rattle.rls_explain.specs.Found as spec;
 
 use crate::asking::{expansion_if, old_rows, rows_scanned};
-use crate::explanation::Explained;
+use crate::detailing::detailed_if;
+use crate::explanation::{Explained, Wanted};
 use crate::judging::put_rows;
 use crate::laws::decisions_found;
 use crate::resolving::{condition_in, tables_of};
@@ -20,24 +21,24 @@ use rls_meaning::rls_access::Ctx;
 use rls_meaning::rls_expansion::PolicyExpansion;
 use rls_meaning::rls_guard::rls_source::RowSource;
 use rls_statement::{Delete, Select};
-use rls_value::{Items, Kind, Name, RowId};
+use rls_value::{Items, Kind, Name};
 use std::alloc::{AllocError, Global};
 
-/// Explains the decisions of a SELECT on the rows of that number.
+/// Explains the decisions of a SELECT that are wanted.
 #[tactic(auto, using(crate::proofs::DecidedLemmas::select_without_table))]
 pub fn explain_select<'c, S: RowSource<'c>>(
     alloc: Global,
     source: &mut S,
     ctx: &Ctx,
     select: &Select,
-    id: RowId,
+    wanted: Wanted,
 ) -> Result<Items<Explained>, AllocError>
-    requires { spec.is_decided id (decisions_of (effect_of (S.state source.old) ctx.now (asked.Select select.now))) ≡ true }
-    ensures row { IfOk result (λ explained. explained ≡ explained_in (S.state source.old) ctx.now (asked.Select select.now) (Some id)) }
+    requires { spec.is_decided wanted (decisions_of (effect_of (S.state source.old) ctx.now (asked.Select select.now))) ≡ true }
+    ensures row { IfOk result (λ explained. explained ≡ explained_in (S.state source.old) ctx.now (asked.Select select.now) (Some wanted)) }
     ensures state { S.state source.new ≡ S.state source.old }
 {
     match source.table(alloc, &select.table)? {
-        Some(table) => explain_selected(alloc, source, ctx, select, table, id),
+        Some(table) => explain_selected(alloc, source, ctx, select, table, wanted),
         None => Ok(Items::new(alloc)),
     }
 }
@@ -49,11 +50,11 @@ fn explain_selected<'c, S: RowSource<'c>>(
     ctx: &Ctx,
     select: &Select,
     table: &TableDef,
-    id: RowId,
+    wanted: Wanted,
 ) -> Result<Items<Explained>, AllocError>
     requires there { table_of (S.state source.old) select.now.table ≡ Some table.now }
-    requires decided { spec.is_decided id (decisions_of (effect_of (S.state source.old) ctx.now (asked.Select select.now))) ≡ true }
-    ensures row { IfOk result (λ explained. explained ≡ explained_in (S.state source.old) ctx.now (asked.Select select.now) (Some id)) }
+    requires decided { spec.is_decided wanted (decisions_of (effect_of (S.state source.old) ctx.now (asked.Select select.now))) ≡ true }
+    ensures row { IfOk result (λ explained. explained ≡ explained_in (S.state source.old) ctx.now (asked.Select select.now) (Some wanted)) }
     ensures state { S.state source.new ≡ S.state source.old }
 {
     decisions_found();
@@ -67,7 +68,9 @@ fn explain_selected<'c, S: RowSource<'c>>(
         table,
     };
     let kind = Kind::Select;
-    let explained = explain_scanned(alloc, source, &ctx.role, from, kind, false, &condition, id);
+    let explained = explain_scanned(
+        alloc, source, &ctx.role, from, kind, false, &condition, wanted,
+    );
     drop(condition);
     explained
 }
@@ -82,7 +85,7 @@ pub fn qualifier_of(select: &Select) -> &Name
     }
 }
 
-/// Explains the decisions of a DELETE on the rows of that number.
+/// Explains the decisions of a DELETE that are wanted.
 #[tactic(auto, using(crate::proofs::DecidedLemmas::delete_without_table))]
 pub fn explain_delete<'c, S: RowSource<'c>>(
     alloc: Global,
@@ -90,15 +93,15 @@ pub fn explain_delete<'c, S: RowSource<'c>>(
     ctx: &Ctx,
     delete: &Delete,
     reads: bool,
-    id: RowId,
+    wanted: Wanted,
 ) -> Result<Items<Explained>, AllocError>
-    requires decided { spec.is_decided id (decisions_of (effect_of (S.state source.old) ctx.now (asked.Delete delete.now))) ≡ true }
+    requires decided { spec.is_decided wanted (decisions_of (effect_of (S.state source.old) ctx.now (asked.Delete delete.now))) ≡ true }
     requires reads { spec.are_read (decisions_of (effect_of (S.state source.old) ctx.now (asked.Delete delete.now))) ≡ reads }
-    ensures row { IfOk result (λ explained. explained ≡ explained_in (S.state source.old) ctx.now (asked.Delete delete.now) (Some id)) }
+    ensures row { IfOk result (λ explained. explained ≡ explained_in (S.state source.old) ctx.now (asked.Delete delete.now) (Some wanted)) }
     ensures state { S.state source.new ≡ S.state source.old }
 {
     match source.table(alloc, &delete.table)? {
-        Some(table) => explain_deleted(alloc, source, ctx, delete, table, reads, id),
+        Some(table) => explain_deleted(alloc, source, ctx, delete, table, reads, wanted),
         None => Ok(Items::new(alloc)),
     }
 }
@@ -111,12 +114,12 @@ fn explain_deleted<'c, S: RowSource<'c>>(
     delete: &Delete,
     table: &TableDef,
     reads: bool,
-    id: RowId,
+    wanted: Wanted,
 ) -> Result<Items<Explained>, AllocError>
     requires there { table_of (S.state source.old) delete.now.table ≡ Some table.now }
-    requires decided { spec.is_decided id (decisions_of (effect_of (S.state source.old) ctx.now (asked.Delete delete.now))) ≡ true }
+    requires decided { spec.is_decided wanted (decisions_of (effect_of (S.state source.old) ctx.now (asked.Delete delete.now))) ≡ true }
     requires reads { spec.are_read (decisions_of (effect_of (S.state source.old) ctx.now (asked.Delete delete.now))) ≡ reads }
-    ensures row { IfOk result (λ explained. explained ≡ explained_in (S.state source.old) ctx.now (asked.Delete delete.now) (Some id)) }
+    ensures row { IfOk result (λ explained. explained ≡ explained_in (S.state source.old) ctx.now (asked.Delete delete.now) (Some wanted)) }
     ensures state { S.state source.new ≡ S.state source.old }
 {
     decisions_found();
@@ -126,7 +129,9 @@ fn explain_deleted<'c, S: RowSource<'c>>(
     };
     let condition = condition_in(alloc, source, from, &delete.condition)?;
     let kind = Kind::Delete;
-    let explained = explain_scanned(alloc, source, &ctx.role, from, kind, reads, &condition, id);
+    let explained = explain_scanned(
+        alloc, source, &ctx.role, from, kind, reads, &condition, wanted,
+    );
     drop(condition);
     explained
 }
@@ -140,16 +145,16 @@ fn explain_scanned<'c, 'x, S: RowSource<'c>>(
     kind: Kind,
     reads: bool,
     condition: &Option<Expr>,
-    id: RowId,
+    wanted: Wanted,
 ) -> Result<Items<Explained>, AllocError>
-    ensures row { IfOk result (λ explained. explained ≡ spec.scan_found (S.state source.old) role.now id (rows_at_key (S.state source.old) from.entry.name.now (pinned_key role.now from.entry.table.now.key condition.now)) (spec.expansion_found (S.state source.old) role.now (in_scope from.entry) kind reads (tables_if condition.now))) }
+    ensures row { IfOk result (λ explained. explained ≡ spec.scan_found (S.state source.old) role.now (in_scope from.entry) wanted (rows_at_key (S.state source.old) from.entry.name.now (pinned_key role.now from.entry.table.now.key condition.now)) (spec.expansion_found (S.state source.old) role.now (in_scope from.entry) kind reads (tables_if condition.now))) }
     ensures state { S.state source.new ≡ S.state source.old }
 {
     let queries = tables_of(alloc, condition)?;
     let found = expansion_if(alloc, source, role, from, kind, reads, queries.as_slice());
     drop(queries);
     let found = found?;
-    let explained = explain_if(alloc, source, role, from, condition, id, &found);
+    let explained = explain_if(alloc, source, role, from, condition, wanted, &found);
     drop(found);
     explained
 }
@@ -161,14 +166,14 @@ fn explain_if<'c, 'x, S: RowSource<'c>>(
     role: &Name,
     from: FromTable<'x>,
     condition: &Option<Expr>,
-    id: RowId,
+    wanted: Wanted,
     found: &Option<PolicyExpansion<'c>>,
 ) -> Result<Items<Explained>, AllocError>
-    ensures row { IfOk result (λ explained. explained ≡ spec.scan_found (S.state source.old) role.now id (rows_at_key (S.state source.old) from.entry.name.now (pinned_key role.now from.entry.table.now.key condition.now)) found.now) }
+    ensures row { IfOk result (λ explained. explained ≡ spec.scan_found (S.state source.old) role.now (in_scope from.entry) wanted (rows_at_key (S.state source.old) from.entry.name.now (pinned_key role.now from.entry.table.now.key condition.now)) found.now) }
     ensures state { S.state source.new ≡ S.state source.old }
 {
     match found {
-        Some(expansion) => explain_under(alloc, source, role, from, condition, id, expansion),
+        Some(expansion) => explain_under(alloc, source, role, from, condition, wanted, expansion),
         None => Ok(Items::new(alloc)),
     }
 }
@@ -179,10 +184,10 @@ fn explain_under<'c, 'x, S: RowSource<'c>>(
     role: &Name,
     from: FromTable<'x>,
     condition: &Option<Expr>,
-    id: RowId,
+    wanted: Wanted,
     expansion: &PolicyExpansion<'c>,
 ) -> Result<Items<Explained>, AllocError>
-    ensures row { IfOk result (λ explained. explained ≡ spec.scan_found (S.state source.old) role.now id (rows_at_key (S.state source.old) from.entry.name.now (pinned_key role.now from.entry.table.now.key condition.now)) (Some expansion.now)) }
+    ensures row { IfOk result (λ explained. explained ≡ spec.scan_found (S.state source.old) role.now (in_scope from.entry) wanted (rows_at_key (S.state source.old) from.entry.name.now (pinned_key role.now from.entry.table.now.key condition.now)) (Some expansion.now)) }
     ensures state { S.state source.new ≡ S.state source.old }
 {
     let rows = rows_scanned(alloc, source, role, from, condition)?;
@@ -191,9 +196,11 @@ fn explain_under<'c, 'x, S: RowSource<'c>>(
         alloc,
         &*source,
         old_rows(expansion, role),
-        id,
+        wanted,
         rows.as_slice(),
         &mut explained,
     )?;
-    Ok(Items::from_vec(explained))
+    drop(rows);
+    let relations = expansion.relations.as_slice();
+    detailed_if(alloc, source, wanted.long, role, from, relations, explained)
 }

@@ -59,7 +59,8 @@ fn write_verdict<W: fmt::Write>(f: &mut fmt::Formatter<W>, verdict: &Verdict) ->
     }
 }
 
-fn truth_word(truth: Truth) -> &'static str
+/// A truth value.
+pub fn truth_word(truth: Truth) -> &'static str
     ensures { result.now ≡ spec.truth_word truth }
 {
     match truth {
@@ -69,7 +70,8 @@ fn truth_word(truth: Truth) -> &'static str
     }
 }
 
-fn permissive_word(permissive: bool) -> &'static str
+/// Whether a policy is permissive.
+pub fn permissive_word(permissive: bool) -> &'static str
     ensures { result.now ≡ spec.permissive_word permissive }
 {
     if permissive {
@@ -79,7 +81,8 @@ fn permissive_word(permissive: bool) -> &'static str
     }
 }
 
-fn policy_kind_word(kind: PolicyKind) -> &'static str
+/// The commands that a policy is for.
+pub fn policy_kind_word(kind: PolicyKind) -> &'static str
     ensures { result.now ≡ spec.policy_kind_word kind }
 {
     match kind {

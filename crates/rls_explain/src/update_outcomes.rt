@@ -11,7 +11,7 @@ ghost use Rattle.rls_judging.specs.ScannedRows.{pinned_key};
 ghost use Rattle.rls_meaning.specs.{Meaning.effect_of, Showing.rows_at_key};
 ghost use Rattle.rls_meaning.specs.rls_expansion.specs.Used.{all_tables, tables_if};
 ghost use Rattle.rls_explain.specs.Explaining.{decisions_of};
-ghost use Rattle.rls_explain.specs.Found.{Decides, are_read, expansion_found, qualifying_found};
+ghost use Rattle.rls_explain.specs.Found.{Decides, are_read, expansion_found, on_row, qualifying_found};
 ghost use Rattle.rls_explain.specs.FoundOutcomes as finding;
 ghost use Rattle.rls_explain.specs.Outcomes as spec;
 
@@ -51,7 +51,7 @@ pub fn update_outcomes<'c, S: RowSource<'c>>(
     read: &Footprint,
     id: RowId,
 ) -> Result<Items<RowOutcome>, AllocError>
-    requires decides { Decides (S.state source.old) ctx.now (asked.Update update.now) id }
+    requires decides { Decides (S.state source.old) ctx.now (asked.Update update.now) (on_row id) }
     requires reads { are_read (decisions_of (effect_of (S.state source.old) ctx.now (asked.Update update.now))) ≡ reads }
     ensures rows { IfOk result (λ rows. rows ≡ finding.told_of (S.state source.old) ctx.now (asked.Update update.now) done read.now) }
     ensures state { S.state source.new ≡ S.state source.old }
@@ -75,7 +75,7 @@ fn updated_outcomes<'c, S: RowSource<'c>>(
     id: RowId,
 ) -> Result<Items<RowOutcome>, AllocError>
     requires there { table_of (S.state source.old) update.now.table ≡ Some table.now }
-    requires decides { Decides (S.state source.old) ctx.now (asked.Update update.now) id }
+    requires decides { Decides (S.state source.old) ctx.now (asked.Update update.now) (on_row id) }
     requires reads { are_read (decisions_of (effect_of (S.state source.old) ctx.now (asked.Update update.now))) ≡ reads }
     ensures rows { IfOk result (λ rows. rows ≡ finding.told_of (S.state source.old) ctx.now (asked.Update update.now) done read.now) }
     ensures state { S.state source.new ≡ S.state source.old }

@@ -13,8 +13,9 @@ ghost use Rattle.rls_explain.specs.Explaining.{decisions_of, explained_in};
 ghost use Rattle.rls_explain.specs.Found as spec;
 
 use crate::asking::{expansion_if, new_rows, old_rows, rows_qualifying, rows_scanned};
-use crate::explanation::Explained;
-use crate::judging::{is_same_id, put_row, put_rows};
+use crate::detailing::detailed_if;
+use crate::explanation::{Explained, Wanted};
+use crate::judging::{is_wanted, put_row, put_rows};
 use crate::laws::decisions_found;
 use crate::resolving::{UpdateParts, update_parts};
 use crate::writing::row_written;
@@ -26,10 +27,10 @@ use rls_meaning::rls_guard::rls_catalog::BorrowedRow;
 use rls_meaning::rls_guard::rls_evaluation::{Env, Scoped, SecuredRelation};
 use rls_meaning::rls_guard::rls_source::RowSource;
 use rls_statement::Update;
-use rls_value::{Items, Kind, Name, Refusal, Row, RowId};
+use rls_value::{Items, Kind, Name, Refusal, Row};
 use std::alloc::{AllocError, Global};
 
-/// Explains the decisions of an UPDATE on the rows of that number, and on what would come of them.
+/// Explains the decisions of an UPDATE that are wanted, on rows and on what would come of them.
 #[tactic(auto, using(crate::proofs::DecidedLemmas::update_without_table))]
 pub fn explain_update<'c, S: RowSource<'c>>(
     alloc: Global,
@@ -37,15 +38,15 @@ pub fn explain_update<'c, S: RowSource<'c>>(
     ctx: &Ctx,
     update: &Update,
     reads: bool,
-    id: RowId,
+    wanted: Wanted,
 ) -> Result<Items<Explained>, AllocError>
-    requires decided { spec.is_decided id (decisions_of (effect_of (S.state source.old) ctx.now (asked.Update update.now))) ≡ true }
+    requires decided { spec.is_decided wanted (decisions_of (effect_of (S.state source.old) ctx.now (asked.Update update.now))) ≡ true }
     requires reads { spec.are_read (decisions_of (effect_of (S.state source.old) ctx.now (asked.Update update.now))) ≡ reads }
-    ensures row { IfOk result (λ explained. explained ≡ explained_in (S.state source.old) ctx.now (asked.Update update.now) (Some id)) }
+    ensures row { IfOk result (λ explained. explained ≡ explained_in (S.state source.old) ctx.now (asked.Update update.now) (Some wanted)) }
     ensures state { S.state source.new ≡ S.state source.old }
 {
     match source.table(alloc, &update.table)? {
-        Some(table) => explain_updated(alloc, source, ctx, update, table, reads, id),
+        Some(table) => explain_updated(alloc, source, ctx, update, table, reads, wanted),
         None => Ok(Items::new(alloc)),
     }
 }
@@ -58,12 +59,12 @@ fn explain_updated<'c, S: RowSource<'c>>(
     update: &Update,
     table: &TableDef,
     reads: bool,
-    id: RowId,
+    wanted: Wanted,
 ) -> Result<Items<Explained>, AllocError>
     requires there { table_of (S.state source.old) update.now.table ≡ Some table.now }
-    requires decided { spec.is_decided id (decisions_of (effect_of (S.state source.old) ctx.now (asked.Update update.now))) ≡ true }
+    requires decided { spec.is_decided wanted (decisions_of (effect_of (S.state source.old) ctx.now (asked.Update update.now))) ≡ true }
     requires reads { spec.are_read (decisions_of (effect_of (S.state source.old) ctx.now (asked.Update update.now))) ≡ reads }
-    ensures row { IfOk result (λ explained. explained ≡ explained_in (S.state source.old) ctx.now (asked.Update update.now) (Some id)) }
+    ensures row { IfOk result (λ explained. explained ≡ explained_in (S.state source.old) ctx.now (asked.Update update.now) (Some wanted)) }
     ensures state { S.state source.new ≡ S.state source.old }
 {
     decisions_found();
@@ -72,7 +73,7 @@ fn explain_updated<'c, S: RowSource<'c>>(
         table,
     };
     let parts = update_parts(alloc, source, from, update)?;
-    let explained = explain_parts(alloc, source, &ctx.role, from, &parts, reads, id);
+    let explained = explain_parts(alloc, source, &ctx.role, from, &parts, reads, wanted);
     drop(parts);
     explained
 }
@@ -85,9 +86,9 @@ fn explain_parts<'c, 'x, S: RowSource<'c>>(
     from: FromTable<'x>,
     parts: &UpdateParts,
     reads: bool,
-    id: RowId,
+    wanted: Wanted,
 ) -> Result<Items<Explained>, AllocError>
-    ensures row { IfOk result (λ explained. explained ≡ spec.update_found (S.state source.old) role.now id from.entry.table.now.columns parts.now.places.items parts.now.values parts.now.condition (rows_at_key (S.state source.old) from.entry.name.now (pinned_key role.now from.entry.table.now.key parts.now.condition)) (spec.expansion_found (S.state source.old) role.now (in_scope from.entry) Kind.Update reads (all_tables parts.now.values ++ tables_if parts.now.condition))) }
+    ensures row { IfOk result (λ explained. explained ≡ spec.update_found (S.state source.old) role.now (in_scope from.entry) wanted from.entry.table.now.columns parts.now.places.items parts.now.values parts.now.condition (rows_at_key (S.state source.old) from.entry.name.now (pinned_key role.now from.entry.table.now.key parts.now.condition)) (spec.expansion_found (S.state source.old) role.now (in_scope from.entry) Kind.Update reads (all_tables parts.now.values ++ tables_if parts.now.condition))) }
     ensures state { S.state source.new ≡ S.state source.old }
 {
     let queries = parts.tables(alloc)?;
@@ -95,7 +96,7 @@ fn explain_parts<'c, 'x, S: RowSource<'c>>(
     let found = expansion_if(alloc, source, role, from, kind, reads, queries.as_slice());
     drop(queries);
     let found = found?;
-    let explained = explain_if(alloc, source, role, from, parts, id, &found);
+    let explained = explain_if(alloc, source, role, from, parts, wanted, &found);
     drop(found);
     explained
 }
@@ -107,14 +108,14 @@ fn explain_if<'c, 'x, S: RowSource<'c>>(
     role: &Name,
     from: FromTable<'x>,
     parts: &UpdateParts,
-    id: RowId,
+    wanted: Wanted,
     found: &Option<PolicyExpansion<'c>>,
 ) -> Result<Items<Explained>, AllocError>
-    ensures row { IfOk result (λ explained. explained ≡ spec.update_found (S.state source.old) role.now id from.entry.table.now.columns parts.now.places.items parts.now.values parts.now.condition (rows_at_key (S.state source.old) from.entry.name.now (pinned_key role.now from.entry.table.now.key parts.now.condition)) found.now) }
+    ensures row { IfOk result (λ explained. explained ≡ spec.update_found (S.state source.old) role.now (in_scope from.entry) wanted from.entry.table.now.columns parts.now.places.items parts.now.values parts.now.condition (rows_at_key (S.state source.old) from.entry.name.now (pinned_key role.now from.entry.table.now.key parts.now.condition)) found.now) }
     ensures state { S.state source.new ≡ S.state source.old }
 {
     match found {
-        Some(expansion) => explain_under(alloc, source, role, from, parts, id, expansion),
+        Some(expansion) => explain_under(alloc, source, role, from, parts, wanted, expansion),
         None => Ok(Items::new(alloc)),
     }
 }
@@ -125,48 +126,86 @@ fn explain_under<'c, 'x, S: RowSource<'c>>(
     role: &Name,
     from: FromTable<'x>,
     parts: &UpdateParts,
-    id: RowId,
+    wanted: Wanted,
     expansion: &PolicyExpansion<'c>,
 ) -> Result<Items<Explained>, AllocError>
-    ensures row { IfOk result (λ explained. explained ≡ spec.update_found (S.state source.old) role.now id from.entry.table.now.columns parts.now.places.items parts.now.values parts.now.condition (rows_at_key (S.state source.old) from.entry.name.now (pinned_key role.now from.entry.table.now.key parts.now.condition)) (Some expansion.now)) }
+    ensures row { IfOk result (λ explained. explained ≡ spec.update_found (S.state source.old) role.now (in_scope from.entry) wanted from.entry.table.now.columns parts.now.places.items parts.now.values parts.now.condition (rows_at_key (S.state source.old) from.entry.name.now (pinned_key role.now from.entry.table.now.key parts.now.condition)) (Some expansion.now)) }
     ensures state { S.state source.new ≡ S.state source.old }
 {
-    let rows = rows_scanned(alloc, source, role, from, &parts.condition)?;
-    let rows = rows.as_slice();
+    let scanned = rows_scanned(alloc, source, role, from, &parts.condition)?;
+    let rows = scanned.as_slice();
     let qualifying = rows_qualifying(alloc, source, role, expansion, &parts.condition, rows)?;
-    let mut explained = Vec::new(alloc);
-    let old = old_rows(expansion, role);
-    let new = new_rows(expansion, role);
     let columns = from.table.columns.as_slice();
-    put_rows(alloc, &*source, old, id, rows, &mut explained)?;
-    put_versions(
+    let explained = explain_both(
         alloc,
         &*source,
+        role,
+        columns,
+        parts,
+        wanted,
+        expansion,
+        rows,
+        &qualifying,
+    );
+    drop(qualifying);
+    let relations = expansion.relations.as_slice();
+    detailed_if(
+        alloc,
+        source,
+        wanted.long,
+        role,
+        from,
+        relations,
+        explained?,
+    )
+}
+
+/// Explains the decisions on the rows that are scanned, then those on the new versions of the rows that qualify.
+fn explain_both<'c, S: RowSource<'c>>(
+    alloc: Global,
+    source: &S,
+    role: &Name,
+    columns: &[Column],
+    parts: &UpdateParts,
+    wanted: Wanted,
+    expansion: &PolicyExpansion<'c>,
+    scanned: &[BorrowedRow<'c>],
+    qualifying: &[&BorrowedRow<'c>],
+) -> Result<Vec<Explained>, AllocError>
+    ensures { IfOk result (λ explained. explained.items ≡ spec.rows_found (S.state source.now) (shows expansion.now.relations role.now) role.now expansion.now.old wanted scanned.now ++ spec.versions_found (S.state source.now) (shows expansion.now.relations role.now) role.now expansion.now.new columns.now parts.now.places.items parts.now.values wanted (map (λ row. row.now) qualifying.now)) }
+{
+    let mut explained = Vec::new(alloc);
+    let old = old_rows(expansion, role);
+    put_rows(alloc, source, old, wanted, scanned, &mut explained)?;
+    let new = new_rows(expansion, role);
+    put_versions(
+        alloc,
+        source,
         new,
         columns,
         parts,
-        id,
-        &qualifying,
+        wanted,
+        qualifying,
         &mut explained,
     )?;
-    Ok(Items::from_vec(explained))
+    Ok(explained)
 }
 
-/// Explains the decisions on the new versions of the rows of that number, behind those that are there.
+/// Explains the decisions on the new versions of the rows that are wanted, behind those that are there.
 fn put_versions<'a, 'c, S: RowSource<'c>>(
     alloc: Global,
     source: &S,
     context: CheckContext<'a, 'c>,
     columns: &[Column],
     parts: &UpdateParts,
-    id: RowId,
+    wanted: Wanted,
     rows: &[&BorrowedRow<'c>],
     explained: &mut Vec<Explained>,
 ) -> Result<(), AllocError>
-    ensures { OnOk result (explained.new.items ≡ explained.old.items ++ spec.versions_found (S.state source.now) (shows context.entry.relations.now context.entry.role.now) context.entry.role.now context.entry.row_checks.now columns.now parts.now.places.items parts.now.values id (map (λ row. row.now) rows.now)) }
+    ensures { OnOk result (explained.new.items ≡ explained.old.items ++ spec.versions_found (S.state source.now) (shows context.entry.relations.now context.entry.role.now) context.entry.role.now context.entry.row_checks.now columns.now parts.now.places.items parts.now.values wanted (map (λ row. row.now) rows.now)) }
 {
     for stored in rows {
-        if is_same_id(id, stored.id()) {
+        if is_wanted(wanted, stored.id()) {
             put_version(alloc, source, context, columns, parts, stored, explained)?;
         }
     }

@@ -4,6 +4,7 @@ pub mod Widening
 pub mod Locks
 pub mod Index
 pub mod Holders
+pub mod Noted
 pub mod LocksCode
 pub use Rattle.rls_source.specs.Footprints
 pub use Rattle.rls_catalog.specs.Bases

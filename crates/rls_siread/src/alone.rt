@@ -48,14 +48,14 @@ pub(crate) fn note_reads(
     index: &mut Index,
     notes: &mut BTreeMap<u64, Noted>,
     txn: u64,
-    footprint: &Footprint,
+    footprint: Footprint,
     limit: usize,
 ) -> Result<(), AllocError>
     requires { AreTold (holders_by alone.old index.old.holders.entries notes.old.entries) notes.old.entries }
-    ensures ok { OnOk result (HasNoted txn (noted_with limit (objects_in (notes_at notes.old.entries txn)) footprint.now) (locks_by alone.old index.old.holders.entries notes.old.entries) (locks_by alone.new index.new.holders.entries notes.new.entries)) }
+    ensures ok { OnOk result (HasNoted txn (noted_with limit (objects_in (notes_at notes.old.entries txn)) footprint) (locks_by alone.old index.old.holders.entries notes.old.entries) (locks_by alone.new index.new.holders.entries notes.new.entries)) }
     ensures err { OnErr result (locks_by alone.new index.new.holders.entries notes.new.entries ≡ locks_by alone.old index.old.holders.entries notes.old.entries) }
 {
-    if begins(notes, txn, footprint) {
+    if begins(notes, txn, &footprint) {
         begin_notes(alloc, notes, txn, footprint, limit)?;
         return Ok(());
     }
@@ -64,7 +64,7 @@ pub(crate) fn note_reads(
         *alone = Some(txn);
         return Ok(());
     }
-    note_beside(alloc, alone, index, notes, txn, footprint, limit)
+    note_beside(alloc, alone, index, notes, txn, &footprint, limit)
 }
 
 /// Whether the transaction begins: it has no notes, and has read nothing.
@@ -106,10 +106,10 @@ fn note_alone(
     alloc: Global,
     notes: &mut BTreeMap<u64, Noted>,
     txn: u64,
-    footprint: &Footprint,
+    footprint: Footprint,
     limit: usize,
 ) -> Result<(), AllocError>
-    ensures ok { OnOk result ((other : ℕ) → notes_at notes.new.entries other ≡ (if nat_eq txn other then Some (record { commit = commit_in (notes_at notes.old.entries txn); objects = noted_with limit (objects_in (notes_at notes.old.entries txn)) footprint.now }) else notes_at notes.old.entries other)) }
+    ensures ok { OnOk result ((other : ℕ) → notes_at notes.new.entries other ≡ (if nat_eq txn other then Some (record { commit = commit_in (notes_at notes.old.entries txn); objects = noted_with limit (objects_in (notes_at notes.old.entries txn)) footprint }) else notes_at notes.old.entries other)) }
     ensures err { OnErr result (notes.new.entries ≡ notes.old.entries) }
 {
     match notes.get_mut(&txn) {
@@ -126,11 +126,11 @@ fn begin_notes(
     alloc: Global,
     notes: &mut BTreeMap<u64, Noted>,
     txn: u64,
-    footprint: &Footprint,
+    footprint: Footprint,
     limit: usize,
 ) -> Result<(), AllocError>
     requires { notes_at notes.old.entries txn ≡ None }
-    ensures ok { OnOk result ((other : ℕ) → notes_at notes.new.entries other ≡ (if nat_eq txn other then Some (record { commit = commit_in (notes_at notes.old.entries txn); objects = noted_with limit (objects_in (notes_at notes.old.entries txn)) footprint.now }) else notes_at notes.old.entries other)) }
+    ensures ok { OnOk result ((other : ℕ) → notes_at notes.new.entries other ≡ (if nat_eq txn other then Some (record { commit = commit_in (notes_at notes.old.entries txn); objects = noted_with limit (objects_in (notes_at notes.old.entries txn)) footprint }) else notes_at notes.old.entries other)) }
     ensures err { OnErr result (notes.new.entries ≡ notes.old.entries) }
 {
     let mut noted = Noted::new(None, Footprint::new(alloc));

@@ -17,6 +17,7 @@ use crate::promotion::{More, is_plain, missing, noted_more, stay_plain};
 use rls_catalog::Change;
 use rls_source::Footprint;
 use rls_value::Object;
+use rls_value::shared::Share;
 use std::alloc::{AllocError, Global};
 use std::collections::BTreeMap;
 use std::marker::Model;
@@ -66,6 +67,16 @@ impl Sireads {
         match self.notes.get(&txn) {
             Some(noted) => Some(noted.objects()),
             None => None,
+        }
+    }
+
+    /// The same objects, for the record of the transaction: shared, where it noted them at once.
+    pub fn share_noted(&self, alloc: Global, txn: u64) -> Result<Share<Footprint>, AllocError>
+        ensures { IfOk result (λ objects. objects ≡ noted_by self.now txn) }
+    {
+        match self.notes.get(&txn) {
+            Some(noted) => noted.share(alloc),
+            None => Share::new(alloc, Footprint::new(alloc)),
         }
     }
 
@@ -123,10 +134,10 @@ impl Sireads {
         &mut self,
         alloc: Global,
         txn: u64,
-        footprint: &Footprint,
+        footprint: Footprint,
         limit: usize,
     ) -> Result<(), AllocError>
-        ensures ok { OnOk result (HasNoted txn (noted_with limit (noted_by self.old txn) footprint.now) self.old self.new) }
+        ensures ok { OnOk result (HasNoted txn (noted_with limit (noted_by self.old txn) footprint) self.old self.new) }
         ensures err { OnErr result (self.new ≡ self.old) }
     {
         note_reads(

@@ -133,9 +133,7 @@ fn notes(
     limit: usize,
 ) -> Result<bool, Refusal> {
     let footprint = footprint_of(alloc, key(number))?;
-    let noted = locks.note(alloc, txn, &footprint, limit);
-    drop(footprint);
-    noted?;
+    locks.note(alloc, txn, footprint, limit)?;
     Ok(true)
 }
 

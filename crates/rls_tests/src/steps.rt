@@ -92,8 +92,7 @@ fn begins(conflicts: &mut Conflicts, alloc: Global, txn: u64) -> Result<bool, Re
 fn reads(conflicts: &mut Conflicts, alloc: Global, txn: u64, part: Part) -> Result<bool, Refusal> {
     let footprint = footprint_of(alloc, part)?;
     let delta = Delta::new(alloc);
-    let posted = posts(conflicts, alloc, txn, &footprint, &delta);
-    drop(footprint);
+    let posted = posts(conflicts, alloc, txn, footprint, &delta);
     drop(delta);
     posted
 }
@@ -101,8 +100,7 @@ fn reads(conflicts: &mut Conflicts, alloc: Global, txn: u64, part: Part) -> Resu
 fn makes(conflicts: &mut Conflicts, alloc: Global, txn: u64, made: Made) -> Result<bool, Refusal> {
     let delta = delta_of(alloc, made)?;
     let footprint = Footprint::new(alloc);
-    let posted = posts(conflicts, alloc, txn, &footprint, &delta);
-    drop(footprint);
+    let posted = posts(conflicts, alloc, txn, footprint, &delta);
     drop(delta);
     posted
 }
@@ -111,13 +109,14 @@ fn posts(
     conflicts: &mut Conflicts,
     alloc: Global,
     txn: u64,
-    footprint: &Footprint,
+    footprint: Footprint,
     delta: &Delta,
 ) -> Result<bool, Refusal> {
     if conflicts.is_running(txn) {
         conflicts.post(alloc, txn, footprint, delta, MANY)?;
         Ok(true)
     } else {
+        drop(footprint);
         Ok(false)
     }
 }

@@ -7,13 +7,14 @@ use Rattle.rls_check.specs.rls_audit.specs.Printed.{texts_of}
 use Rattle.rls_check.specs.declared.audit.Audit.{Audit}
 use Rattle.rls_check.specs.declared.finding.Finding.{Finding}
 use Rattle.rls_check.specs.declared.explaining.Why.{Why}
+use Rattle.rls_check.specs.declared.placed.Placed.{Placed}
 use Rattle.rls_check.specs.declared.converting.Converter.{Converter}
 use Rattle.rls_check.specs.Wholes.{AreConverted, HasConverted, IsAuditOf}
 use Rattle.rls_check.specs.Checking.{IsFirst}
 use Rattle.rls_check.specs.Explaining.{IsExplained}
 use Rattle.rls_check.specs.Findings.{finding_text}
 use Rattle.rls_session.specs.rls_script.specs.Streams.{GrewBy}
-use Rattle.rlsdb.specs.Answers.{IsAudited, IsCheckOfOne, IsMigrationOf, IsOrderOf, IsRunText, IsWhyOf, IsWithAudit, RunsGiven, checked_text, is_yes, order_text, why_text}
+use Rattle.rlsdb.specs.Answers.{IsAudited, IsCheckOfOne, IsMigrationOf, IsOrderOf, IsRunText, IsWhyOf, IsWithAudit, RunsGiven, checked_text, is_yes, order_text, placed_if, why_text}
 use Rattle.rlsdb.specs.AuditLines.{Reads, WritesAudit, ended_lines}
 
 -- the lines that were read, and what holds of them
@@ -37,10 +38,10 @@ checked named name before after old new audit found holds reads first grew says 
     (λ texts is. record { more = checked_text named name (finding_text found ++ (10 ∷ [])); grew = grew; fact = (finding_text found ++ (10 ∷ []), (audit, found, is, first, refl, says), refl) }) reads
 
 -- why a statement did what it did
-pub explained : (before after old new : List ℕ) (audit : Audit) (txn statement : ℕ) (row : Option RowId) (why : Option Why) (said : Bool) → Reads before after (λ texts. IsAuditOf texts audit) → IsExplained audit.transactions audit.order txn statement row why → new ≡ old ++ why_text why → said ≡ is_some why
-    → Reads before after (λ texts. GrewBy old new (λ written. IsWhyOf txn statement row texts written said))
-explained before after old new audit txn statement row why said reads is_why grew says =
-    reads_more before after (λ texts. IsAuditOf texts audit) (λ texts. GrewBy old new (λ written. IsWhyOf txn statement row texts written said)) (λ texts is. record { more = why_text why; grew = grew; fact = (audit, why, is, is_why, refl, says) }) reads
+pub explained : (before after old new : List ℕ) (audit : Audit) (txn statement : ℕ) (row : Option RowId) (long : Bool) (why : Option Why) (placed : Option Placed) (said : Bool) → Reads before after (λ texts. IsAuditOf texts audit) → IsExplained audit.transactions audit.order txn statement row long why → placed ≡ placed_if long audit txn → new ≡ old ++ why_text why placed → said ≡ is_some why
+    → Reads before after (λ texts. GrewBy old new (λ written. IsWhyOf txn statement row long texts written said))
+explained before after old new audit txn statement row long why placed said reads is_why stands grew says =
+    reads_more before after (λ texts. IsAuditOf texts audit) (λ texts. GrewBy old new (λ written. IsWhyOf txn statement row long texts written said)) (λ texts is. record { more = why_text why placed; grew = grew; fact = (audit, why, is, is_why, ap (why_text why) stands, says) }) reads
 
 -- the text of a script that was given; what is written on behind it is no more
 pub run_text : (threads terse : Bool) (before after old middle new : List ℕ) (history : List Record) → RunsGiven threads terse before after old middle history → new ≡ middle → GrewBy old new (λ written. IsRunText threads terse written history)

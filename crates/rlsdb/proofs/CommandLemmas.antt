@@ -60,9 +60,9 @@ pub checked : (request : Request) (checks : Checks) (hold : Bool) (old new : Lis
 checked request checks hold old new is grew =
     answered request (q.Check checks) hold old new (λ written. Answers (q.Check checks) written hold) is (λ written it. it) grew
 
-pub explained : (request : Request) (asked : Explain) (said : Bool) (old new : List ℕ) → request ≡ q.Explain asked → GrewBy old new (λ written. (texts : List (List ℕ)) × IsWhyOf asked.txn asked.statement asked.row texts written said) → GrewBy old new (λ written. Answers request written said)
+pub explained : (request : Request) (asked : Explain) (said : Bool) (old new : List ℕ) → request ≡ q.Explain asked → GrewBy old new (λ written. (texts : List (List ℕ)) × IsWhyOf asked.txn asked.statement asked.row asked.long texts written said) → GrewBy old new (λ written. Answers request written said)
 explained request asked said old new is grew =
-    answered request (q.Explain asked) said old new (λ written. (texts : List (List ℕ)) × IsWhyOf asked.txn asked.statement asked.row texts written said) is (λ written it. it) grew
+    answered request (q.Explain asked) said old new (λ written. (texts : List (List ℕ)) × IsWhyOf asked.txn asked.statement asked.row asked.long texts written said) is (λ written it. it) grew
 
 pub migrated : (request : Request) (from to : Bor (List ℕ)) (done : Bool) (old new : List ℕ) → request ≡ q.Migrate from to → GrewBy old new (λ written. Answers (q.Migrate from to) written done) → GrewBy old new (λ written. Answers request written done)
 migrated request from to done old new is grew =

@@ -7,6 +7,7 @@ pub mod DumpLemmas
 pub mod FlawLemmas
 pub mod LineLemmas
 pub mod LintLemmas
+pub mod GraphLemmas
 pub mod ListingLemmas
 pub mod NumberLemmas
 pub mod ParsingLemmas

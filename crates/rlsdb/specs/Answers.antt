@@ -13,12 +13,15 @@ use Rattle.rls_check.specs.Checking.{IsFirst}
 use Rattle.rls_check.specs.Explaining.{IsExplained}
 use Rattle.rls_check.specs.Findings.{finding_text}
 use Rattle.rls_check.specs.declared.filtering.ShownFilter.{ShownFilter}
+use Rattle.rls_check.specs.declared.graph_form.GraphForm.{GraphForm}
+use Rattle.rls_check.specs.declared.graph_form.Picture.{Picture}
+use Rattle.rls_check.specs.declared.graph_form.Picture.TheVariants as p
 use Rattle.rls_check.specs.declared.shown_texts.Ending.{Ending}
 use Rattle.rls_check.specs.declared.shown_texts.Ending.TheVariants as e
 use Rattle.rls_check.specs.declared.walking.Turn.{Turn}
 use Rattle.rls_check.specs.Listing.{IsLong}
 use Rattle.rls_check.specs.ShownAudits.{IsShown}
-use Rattle.rls_check.specs.WhyTexts.{explanation_text}
+use Rattle.rls_check.specs.{LongTexts.long_text, Placed.placed_in, WhyTexts.explanation_text, declared.placed.Placed.Placed}
 use Rattle.rls_session.specs.Scripts.{IsScriptText, RunsScript}
 use Rattle.rls_session.specs.Texts.{IsPhasesText, RunsInPhases}
 use Rattle.rls_command_line.specs.declared.words.Request.{Request}
@@ -26,11 +29,15 @@ use Rattle.rls_command_line.specs.declared.words.Request.TheVariants as q
 use Rattle.rls_command_line.specs.Words.{is_output, is_output_wanted}
 use Rattle.rls_command_line.specs.declared.words.ScriptFile.{ScriptFile}
 use Rattle.rls_command_line.specs.declared.words.Wanted.{Wanted}
+use Rattle.rls_command_line.specs.declared.words.GraphWanted.{GraphWanted}
+use Rattle.rls_command_line.specs.declared.words.Language.{Language}
+use Rattle.rls_command_line.specs.declared.words.Language.TheVariants as l
 use Rattle.rlsdb.specs.AuditLines.{WritesAudit, ended_lines}
 use Rattle.rlsdb.specs.declared.linting.StateEnd.{StateEnd}
 use Rattle.rlsdb.specs.Linting.{IsLintOf, is_all_right}
 use Rattle.rlsdb.specs.Dumping.{IsDumpOf}
 use Rattle.rlsdb.specs.Numbers.{IsNumberedText}
+use Rattle.rlsdb.specs.Graphing.{IsGraphed}
 use Rattle.rlsdb.specs.Tests.{AreTested, IsStopText}
 
 -- What was taken grew by the text of the script that was given, run in phases or in the order of its lines. Told tersely, serialization
@@ -95,15 +102,25 @@ pub data AreChecked (named : Bool) : (names : List (List ℕ)) → (written : Li
   none : AreChecked named [] [] true
   more : {name written rest : List ℕ} {names texts : List (List ℕ)} {holds hold : Bool} → IsCheckOfOne named name texts written holds → AreChecked named names rest hold → AreChecked named (name ∷ names) (written ++ rest) (holds && hold)
 
+-- the lines, at length where it is known where the transaction stands
+abbrev pub lines_text : Why → Option Placed → List ℕ
+lines_text why None = explanation_text why
+lines_text why (Some placed) = long_text why placed
+
+-- where the transaction stands, if that is to be told
+abbrev pub placed_if : Bool → Audit → ℕ → Option Placed
+placed_if true audit txn = placed_in audit.transactions audit.order txn
+placed_if false audit txn = None
+
 -- why a statement did what it did, or that there is nothing to say
-abbrev pub why_text : Option Why → List ℕ
-why_text (Some why) = explanation_text why
-why_text None = codes "no such decision" ++ (10 ∷ [])
+abbrev pub why_text : Option Why → Option Placed → List ℕ
+why_text (Some why) placed = lines_text why placed
+why_text None placed = codes "no such decision" ++ (10 ∷ [])
 
 -- the same of the statement of that number, of the audit whose lines these are
-abbrev pub IsWhyOf : ℕ → ℕ → Option RowId → List (List ℕ) → List ℕ → Bool → Type 0
-IsWhyOf txn statement row texts written said =
-    (audit : Audit) × (why : Option Why) × IsAuditOf texts audit × IsExplained audit.transactions audit.order txn statement row why × (written ≡ why_text why) × (said ≡ is_some why)
+abbrev pub IsWhyOf : ℕ → ℕ → Option RowId → Bool → List (List ℕ) → List ℕ → Bool → Type 0
+IsWhyOf txn statement row long texts written said =
+    (audit : Audit) × (why : Option Why) × IsAuditOf texts audit × IsExplained audit.transactions audit.order txn statement row long why × (written ≡ why_text why (placed_if long audit txn)) × (said ≡ is_some why)
 
 -- the same statements and rows, as turns are asked for them
 abbrev pub filter_of : Wanted → ShownFilter
@@ -116,6 +133,20 @@ IsShownOf it texts written ending = (audit : Audit) × IsAuditOf texts audit × 
 -- the transactions of the audit whose lines these are, along its order, with what their statements come to, and how it ended
 abbrev pub IsLongOf : List (List ℕ) → List ℕ → Ending → Type 0
 IsLongOf texts written ending = (audit : Audit) × IsAuditOf texts audit × IsLong audit.transactions audit.order written ending
+
+-- the language of a picture, as a graph is asked for it
+abbrev pub picture_of : Option Language → Option Picture
+picture_of (Some l.Mermaid) = Some p.Mermaid
+picture_of (Some l.Dot) = Some p.Dot
+picture_of None = None
+
+-- the same form, as a graph is asked for it
+abbrev pub form_of : GraphWanted → GraphForm
+form_of it = record { picture = picture_of it.language; all = it.all }
+
+-- the graph of the audit whose lines these are, and how it ended
+abbrev pub IsGraphOf : GraphForm → List (List ℕ) → List ℕ → Ending → Type 0
+IsGraphOf form texts written ending = (audit : Audit) × IsAuditOf texts audit × IsGraphed form audit.transactions audit.order written ending
 
 -- all statements came to what the audit shows
 abbrev pub is_whole : Ending → Bool
@@ -161,10 +192,11 @@ Answers (q.Order name) written done = (texts : List (List ℕ)) × IsOrderOf tex
 Answers (q.OrderLong name) written done = (texts : List (List ℕ)) × (ending : Ending) × IsLongOf texts written ending × (done ≡ is_whole ending)
 Answers (q.Check it) written done =
     (made : List ℕ) × AreChecked (nat_lt 1 (length it.audits.items)) (map (λ name. name.now) it.audits.items) made done × (written ≡ answered_part (not it.quiet) made)
-Answers (q.Explain asked) written done = (texts : List (List ℕ)) × IsWhyOf asked.txn asked.statement asked.row texts written done
+Answers (q.Explain asked) written done = (texts : List (List ℕ)) × IsWhyOf asked.txn asked.statement asked.row asked.long texts written done
 Answers (q.Shown asked) written done = (texts : List (List ℕ)) × (ending : Ending) × IsShownOf (filter_of asked.wanted) texts written ending × (done ≡ is_whole ending)
 Answers (q.Lint asked) written done = (texts : List (List ℕ)) × (ending : StateEnd) × IsLintOf asked.after texts written ending × (done ≡ is_all_right ending)
 Answers (q.Dump asked) written done = (texts : List (List ℕ)) × (ending : StateEnd) × IsDumpOf asked.after texts written ending × (done ≡ is_all_right ending)
+Answers (q.Graph asked) written done = (texts : List (List ℕ)) × (ending : Ending) × IsGraphOf (form_of asked.wanted) texts written ending × (done ≡ is_whole ending)
 Answers (q.Parse name) written done = IsParsed written done
 Answers (q.Migrate from to) written done =
     (texts : List (List ℕ)) × (taken : List ℕ) × IsMigrationOf texts taken × (written ≡ answered_part (is_output to.now) taken) × (done ≡ true)

@@ -4,6 +4,7 @@ pub mod Numbers
 pub mod Linting
 pub mod Dumping
 pub mod Listing
+pub mod Graphing
 pub mod Answers
 pub mod Flaws
 pub mod Missing

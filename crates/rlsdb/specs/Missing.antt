@@ -12,5 +12,5 @@ use Rattle.rlsdb.specs.declared.missing.Missing.TheVariants as missing
 abbrev pub IsMissing : Audit → ℕ → ℕ → Missing → Type 0
 IsMissing audit txn statement missing.Unsaid = Unit {0}
 IsMissing audit txn statement missing.Txn = list_any (λ number. nat_eq number txn) audit.order ≡ false
-IsMissing audit txn statement missing.Statement = IsExplained audit.transactions audit.order txn statement None None
-IsMissing audit txn statement missing.Row = (why : Why) × IsExplained audit.transactions audit.order txn statement None (Some why)
+IsMissing audit txn statement missing.Statement = IsExplained audit.transactions audit.order txn statement None false None
+IsMissing audit txn statement missing.Row = (why : Why) × IsExplained audit.transactions audit.order txn statement None false (Some why)

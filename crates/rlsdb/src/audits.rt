@@ -4,9 +4,9 @@ ghost use Rattle.std.specs.Prelude.{◌≡◌, ◌++◌, ◌∷◌, [], ℕ, nat
 ghost use Rattle.std.specs.Io.Buffered.{writer_buffer};
 ghost use Rattle.rls_check.specs.Findings.{finding_text};
 ghost use Rattle.rls_check.specs.Wholes.{HasConverted, HasRead, IsAuditOf};
-ghost use Rattle.rls_check.specs.WhyTexts.{explanation_text};
+ghost use Rattle.rls_check.specs.{LongTexts.long_text, WhyTexts.explanation_text};
 ghost use Rattle.rls_session.specs.rls_script.specs.Streams.{GrewBy};
-ghost use Rattle.rlsdb.specs.Answers.{AreChecked, IsCheckOfOne, checked_text, IsMigrationOf, IsOrderOf, IsWhyOf, order_text, why_text};
+ghost use Rattle.rlsdb.specs.Answers.{AreChecked, IsCheckOfOne, checked_text, IsMigrationOf, IsOrderOf, IsWhyOf, lines_text, order_text, placed_if as spec_placed_if, why_text};
 ghost use Rattle.rlsdb.specs.AuditLines.{Converted, Reads, ended_lines};
 ghost use Rattle.rlsdb.specs.Faults.{IsToldOf, ended_fault, named_fault};
 
@@ -16,10 +16,10 @@ use crate::fault::Fault;
 use crate::missing::{Missing, missing_in};
 use crate::out_file::OutFile;
 use crate::same_file::{require_apart, require_own};
-use rls_check::{Audit, Converter, Finding, Reader, Why};
+use rls_check::{Audit, Converter, Finding, Placed, Reader, Why};
 use rls_command_line::Explain;
 use rls_session::rls_script::{Failed, RunFault, ScriptIn, ScriptOut, write_all};
-use std::alloc::Global;
+use std::alloc::{AllocError, Global};
 use std::fs;
 use std::fs::File;
 use std::io::Read;
@@ -183,7 +183,7 @@ pub fn explain<'a, O: ScriptOut>(
     asked: Explain<'a>,
     output: &mut O,
 ) -> Result<bool, Fault<'a>>
-    ensures { IfOk result (λ said. GrewBy (O.taken output.old) (O.taken output.new) (λ written. (texts : List (List ℕ)) × IsWhyOf asked.entry.txn asked.entry.statement asked.entry.row texts written said)) }
+    ensures { IfOk result (λ said. GrewBy (O.taken output.old) (O.taken output.new) (λ written. (texts : List (List ℕ)) × IsWhyOf asked.entry.txn asked.entry.statement asked.entry.row asked.entry.long texts written said)) }
 {
     let mut input = audit_in(rt, asked.audit)?;
     match write_explained(rt.alloc(), &mut input, asked, output) {
@@ -203,17 +203,33 @@ fn write_explained<'a, I: ScriptIn + Drop, O: ScriptOut>(
     asked: Explain<'a>,
     output: &mut O,
 ) -> Result<(bool, Option<Missing>), Fault<'a>>
-    ensures { IfOk result (λ it. Reads (I.given input.old.input) (I.given input.new.input) (λ texts. GrewBy (O.taken output.old) (O.taken output.new) (λ written. IsWhyOf asked.entry.txn asked.entry.statement asked.entry.row texts written it.0))) }
+    ensures { IfOk result (λ it. Reads (I.given input.old.input) (I.given input.new.input) (λ texts. GrewBy (O.taken output.old) (O.taken output.new) (λ written. IsWhyOf asked.entry.txn asked.entry.statement asked.entry.row asked.entry.long texts written it.0))) }
 {
     let audit = read_audit(alloc, asked.audit, input)?;
-    let why = audit.explain(alloc, asked.txn, asked.statement, asked.row)?;
+    let placed = placed_if(alloc, &audit, asked)?;
+    let why = audit.explain(alloc, asked.txn, asked.statement, asked.row, asked.long)?;
     let missing = match &why {
         Some(_) => None,
         None => Some(missing_in(alloc, &audit, asked.txn, asked.statement)),
     };
     drop(audit);
-    let said = write_why(alloc, why, output)?;
+    let said = write_why(alloc, why, placed, output)?;
     Ok((said, missing))
+}
+
+/// Where the transaction stands, if that is to be told.
+fn placed_if<'a>(
+    alloc: Global,
+    audit: &Audit,
+    asked: Explain<'a>,
+) -> Result<Option<Placed>, AllocError>
+    ensures { IfOk result (λ placed. placed ≡ spec_placed_if asked.entry.long audit.now asked.entry.txn) }
+{
+    if asked.long {
+        audit.placed(alloc, asked.txn)
+    } else {
+        Ok(None)
+    }
 }
 
 /// Tells standard error what is missing.
@@ -223,6 +239,7 @@ fn report_missing(rt: &HostRuntime, asked: Explain<'_>, missing: Option<Missing>
         txn,
         statement,
         row,
+        long: _,
     } = asked;
     match (missing, row) {
         (Some(Missing::Txn), _) => {
@@ -244,30 +261,65 @@ fn report_missing(rt: &HostRuntime, asked: Explain<'_>, missing: Option<Missing>
 fn write_why<O: ScriptOut>(
     alloc: Global,
     why: Option<Why>,
+    placed: Option<Placed>,
     output: &mut O,
 ) -> Result<bool, RunFault>
-    ensures text { OnOk result (O.taken output.new ≡ O.taken output.old ++ why_text why) }
+    ensures text { OnOk result (O.taken output.new ≡ O.taken output.old ++ why_text why placed) }
     ensures said { IfOk result (λ said. said ≡ is_some why) }
 {
     match why {
         Some(why) => {
-            write_lines(alloc, why, output)?;
+            write_lines(alloc, why, placed, output)?;
             Ok(true)
         }
         None => {
+            drop(placed);
             write_text_line("no such decision", output)?;
             Ok(false)
         }
     }
 }
 
-fn write_lines<O: ScriptOut>(alloc: Global, why: Why, output: &mut O) -> Result<(), RunFault>
+/// The lines: at length where it is known where the transaction stands.
+fn write_lines<O: ScriptOut>(
+    alloc: Global,
+    why: Why,
+    placed: Option<Placed>,
+    output: &mut O,
+) -> Result<(), RunFault>
+    ensures { OnOk result (O.taken output.new ≡ O.taken output.old ++ lines_text why placed) }
+{
+    match placed {
+        Some(placed) => write_long_lines(alloc, why, placed, output),
+        None => write_short_lines(alloc, why, output),
+    }
+}
+
+fn write_short_lines<O: ScriptOut>(alloc: Global, why: Why, output: &mut O) -> Result<(), RunFault>
     ensures { OnOk result (O.taken output.new ≡ O.taken output.old ++ explanation_text why) }
 {
     let lines = why.lines(alloc);
     drop(why);
     let lines = lines?;
     match write_all(lines.as_bytes(), output) {
+        Ok(()) => Ok(()),
+        Err(Failed) => Err(RunFault::Write),
+    }
+}
+
+fn write_long_lines<O: ScriptOut>(
+    alloc: Global,
+    why: Why,
+    placed: Placed,
+    output: &mut O,
+) -> Result<(), RunFault>
+    ensures { OnOk result (O.taken output.new ≡ O.taken output.old ++ long_text why placed) }
+{
+    let lines = why.long_lines(alloc, &placed);
+    drop(why);
+    drop(placed);
+    let lines = lines?;
+    match write_all(lines.as_slice(), output) {
         Ok(()) => Ok(()),
         Err(Failed) => Err(RunFault::Write),
     }

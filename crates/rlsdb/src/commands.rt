@@ -11,7 +11,8 @@ ghost use Rattle.rlsdb.specs.Faults.{EndsAnswer, EndsWith, EndsMistake};
 use crate::device::{DeviceOut, Nowhere};
 use crate::fault::Fault;
 use crate::{
-    audits, dumping, hinting, linting, listing, numbering, running, shown, stopping, testing,
+    audits, dumping, graphing, hinting, linting, listing, numbering, running, shown, stopping,
+    testing,
 };
 use clap::error::ErrorKind;
 use rls_command_line::{
@@ -126,7 +127,7 @@ fn serve<'a, W: Threads + Wait + Clock + Sync, D: Write + Drop>(
 }
 
 /// Does what is asked for.
-#[tactic(auto, using(crate::proofs::CommandLemmas::ran, crate::proofs::CommandLemmas::ordered, crate::proofs::ListingLemmas::answered_long, crate::proofs::CommandLemmas::checked, crate::proofs::CommandLemmas::explained, crate::proofs::ShownLemmas::answered_shown, crate::proofs::LintLemmas::answered_lint, crate::proofs::DumpLemmas::answered_dump, crate::proofs::CommandLemmas::migrated, crate::proofs::CommandLemmas::parsed, crate::proofs::TestLemmas::tests_answered, crate::proofs::TestLemmas::stop_answered, crate::proofs::NumberLemmas::numbers_answered))]
+#[tactic(auto, using(crate::proofs::CommandLemmas::ran, crate::proofs::CommandLemmas::ordered, crate::proofs::ListingLemmas::answered_long, crate::proofs::CommandLemmas::checked, crate::proofs::CommandLemmas::explained, crate::proofs::ShownLemmas::answered_shown, crate::proofs::LintLemmas::answered_lint, crate::proofs::DumpLemmas::answered_dump, crate::proofs::GraphLemmas::answered_graph, crate::proofs::CommandLemmas::migrated, crate::proofs::CommandLemmas::parsed, crate::proofs::TestLemmas::tests_answered, crate::proofs::TestLemmas::stop_answered, crate::proofs::NumberLemmas::numbers_answered))]
 fn answer<'a, W: Threads + Wait + Clock + Sync, D: Write + Drop>(
     rt: &HostRuntime,
     waits: &W,
@@ -150,6 +151,7 @@ fn answer<'a, W: Threads + Wait + Clock + Sync, D: Write + Drop>(
         Request::Shown(asked) => Ok(shown::shown(rt, asked, output)?),
         Request::Lint(asked) => Ok(linting::lint(rt, asked, output)?),
         Request::Dump(asked) => Ok(dumping::dump(rt, waits, asked, output)?),
+        Request::Graph(asked) => Ok(graphing::graph(rt, asked, output)?),
         Request::Migrate(from, to) => Ok(migrate(rt, from, to, output)?),
         Request::Parse(file) => Ok(hinting::parse(rt, file, output)?),
     }

@@ -9,6 +9,7 @@ mod device;
 mod dumping;
 mod fault;
 mod flaw;
+mod graphing;
 mod held;
 mod hinting;
 mod holding;

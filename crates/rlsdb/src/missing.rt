@@ -25,7 +25,7 @@ pub fn missing_in(alloc: Global, audit: &Audit, txn: u64, statement: u64) -> Mis
     if !audit.order().contains(&txn) {
         return Missing::Txn;
     }
-    match audit.explain(alloc, txn, statement, None) {
+    match audit.explain(alloc, txn, statement, None, false) {
         Ok(Some(why)) => {
             drop(why);
             Missing::Row

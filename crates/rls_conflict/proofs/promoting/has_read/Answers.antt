@@ -20,6 +20,6 @@ returns c =
     c.requires.told.covered c.args.other c.index-committed-other.result
     (slice_get_read c.args.committed.now (length c.args.committed.now) c.args.other c.index-committed-other.result refl (omega arith) c.index-committed-other.is) in
     c.have_common.ensures
-    ∙ ap (λ (it : Committed). list_any (is_among it.covered) c.behind-transactions.inside.noted) (sym c.index-committed-other.is)
-    ∙ ap (λ (objects : List Object). list_any (is_among c.index-committed-other.result.covered) objects) noted
+    ∙ ap (λ (it : Committed). list_any (is_among it.covered) c.get-2.result.now) (sym c.index-committed-other.is)
+    ∙ ap (λ (objects : List Object). list_any (is_among c.index-committed-other.result.covered) objects) (c.get-2.ensures ∙ noted)
     ∙ read_covered (at c.args.transactions.now c.args.one).noted c.index-committed-other.result.covered (at c.args.transactions.now c.args.other) covered

@@ -12,12 +12,17 @@ use Rattle.rls_core.proofs.machine.put.Goals as goal
 pub post-requires-clause-role : goal.post-requires-clause-role
 post-requires-clause-role c =
     let found : at_number c.args.work.txn c.args.running.now.entries ≡ Some c.in-Some.opened.now = sym c.get_mut.ensures.value ∙ ap option_copied_mut c.in-Some.is in
-    (subst (CanFollow c.args.work) found c.requires.follows).0
+    (subst (CanFollow c.args.work) found c.requires.follows).role
 
 pub post-requires-clause-range : goal.post-requires-clause-range
 post-requires-clause-range c =
     let found : at_number c.args.work.txn c.args.running.now.entries ≡ Some c.in-Some.opened.now = sym c.get_mut.ensures.value ∙ ap option_copied_mut c.in-Some.is in
-    (subst (CanFollow c.args.work) found c.requires.follows).1
+    (subst (CanFollow c.args.work) found c.requires.follows).range
+
+pub post-requires-clause-view : goal.post-requires-clause-view
+post-requires-clause-view c =
+    let found : at_number c.args.work.txn c.args.running.now.entries ≡ Some c.in-Some.opened.now = sym c.get_mut.ensures.value ∙ ap option_copied_mut c.in-Some.is in
+    (subst (CanFollow c.args.work) found c.requires.follows).view
 
 pub returns-in-Err-clause-same : goal.returns-in-Err-clause-same
 returns-in-Err-clause-same c =

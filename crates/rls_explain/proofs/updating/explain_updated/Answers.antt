@@ -15,8 +15,8 @@ returns-clause-row g c =
     let table = c.args.table.now in
     let parts = c.in_ok-parts.parts in
     subst (λ (all : List Explained). IfOk c.explain_parts-explained.result (λ explained. explained ≡ all))
-    (ap (λ s. update_found s role c.args.id table.columns parts.places.items parts.values parts.condition (rows_at_key s c.args.update.now.table (pinned_key role table.key parts.condition))
+    (ap (λ s. update_found s role (c.args.update.now.table, table) c.args.wanted table.columns parts.places.items parts.values parts.condition (rows_at_key s c.args.update.now.table (pinned_key role table.key parts.condition))
     (expansion_found s role (c.args.update.now.table, table) k.Update c.args.reads (all_tables parts.values ++ tables_if parts.condition))) c.in_ok-parts.ensures.state
-    ∙ c.decisions_found.ensures.update (g.S.RowSource.state c.args.source.now) c.args.ctx.now c.args.update.now c.args.id table parts.places.items parts.values parts.condition c.args.reads c.requires.there c.requires.decided c.requires.reads
+    ∙ c.decisions_found.ensures.update (g.S.RowSource.state c.args.source.now) c.args.ctx.now c.args.update.now c.args.wanted table parts.places.items parts.values parts.condition c.args.reads c.requires.there c.requires.decided c.requires.reads
     c.in_ok-parts.ensures.places c.in_ok-parts.ensures.values c.in_ok-parts.ensures.condition)
     c.explain_parts-explained.ensures.row

@@ -14,8 +14,8 @@ pub returns-in-Ok-clause-ok : goal.returns-in-Ok-clause-ok
 returns-in-Ok-clause-ok c =
     let found : notes_at c.args.notes.now.entries c.args.txn ≡ Some c.in-Some.noted.now = sym c.get_mut.ensures.value ∙ ap option_copied_mut c.in-Some.is in
     let wrote = c.get_mut.follows.holds c.renew.new.self in
-    notes_put c.args.notes.now.entries (c.get_mut.follows.lender c.renew.new.self).entries c.args.txn c.renew.new.self (noted_with c.args.limit (objects_in (notes_at c.args.notes.now.entries c.args.txn)) c.args.footprint.now)
-    (ap (λ (notes : Notes). notes.objects) c.in-Ok.ensures.ok ∙ ap (λ found. noted_with c.args.limit (objects_in found) c.args.footprint.now) (sym found))
+    notes_put c.args.notes.now.entries (c.get_mut.follows.lender c.renew.new.self).entries c.args.txn c.renew.new.self (noted_with c.args.limit (objects_in (notes_at c.args.notes.now.entries c.args.txn)) c.args.footprint)
+    (ap (λ (notes : Notes). notes.objects) c.in-Ok.ensures.ok ∙ ap (λ found. noted_with c.args.limit (objects_in found) c.args.footprint) (sym found))
     (ap (λ (notes : Notes). notes.commit) c.in-Ok.ensures.ok ∙ ap commit_in (sym found))
     (wrote.3 (ap is_some found)).0
 

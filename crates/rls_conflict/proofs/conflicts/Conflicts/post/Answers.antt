@@ -30,12 +30,12 @@ invariant_of-self-2 c =
     sym (runs c.self.inside.committed.items c.self.inside.running.entries c.self.inside.sireads c.args.txn) ∙ ap (λ (known : Known). is_running known c.args.txn) c.self.view_is ∙ c.requires in
     posted_kept c.self.inside.committed.items (vec_len c.self.inside.committed) (vec_capacity c.self.inside.committed) c.self.inside.running.entries c.take_in.new.running.entries
     c.self.inside.sireads c.take_in.new.sireads c.self.inside.writers c.take_in.new.writers c.self.inside.floor c.args.txn c.in_ok-part.part.changes.items c.in_ok-part.part.covered
-    (noted_with c.args.limit (noted_by c.self.inside.sireads c.args.txn) c.args.footprint.now) c.self.invariant there c.in_ok-part.ensures.covered
+    (noted_with c.args.limit (noted_by c.self.inside.sireads c.args.txn) c.args.footprint) c.self.invariant there c.in_ok-part.ensures.covered
     c.in_ok-take_in.ensures.running c.in_ok-take_in.ensures.size c.in_ok-take_in.ensures.noted c.in_ok-take_in.ensures.written
 
 pub returns-clause-ok : goal.returns-clause-ok
 returns-clause-ok c =
-    subst (λ (changes : List Change). Becomes c.args.txn (option_map (posted c.args.limit c.args.footprint.now changes) (running_of c.args.self.now c.args.txn)) c.args.self.now (known_by c.self.inside.committed.items c.take_in.new.running.entries c.take_in.new.sireads)) c.in_ok-part.ensures.changes
-    (subst (λ (known : Known). Becomes c.args.txn (option_map (posted c.args.limit c.args.footprint.now c.in_ok-part.part.changes.items) (running_of known c.args.txn)) known (known_by c.self.inside.committed.items c.take_in.new.running.entries c.take_in.new.sireads)) c.self.view_is
-    (posted_seen c.self.inside.committed.items c.self.inside.running.entries c.take_in.new.running.entries c.self.inside.sireads c.take_in.new.sireads c.args.txn c.args.limit c.args.footprint.now c.in_ok-part.part.changes.items
+    subst (λ (changes : List Change). Becomes c.args.txn (option_map (posted c.args.limit c.args.footprint changes) (running_of c.args.self.now c.args.txn)) c.args.self.now (known_by c.self.inside.committed.items c.take_in.new.running.entries c.take_in.new.sireads)) c.in_ok-part.ensures.changes
+    (subst (λ (known : Known). Becomes c.args.txn (option_map (posted c.args.limit c.args.footprint c.in_ok-part.part.changes.items) (running_of known c.args.txn)) known (known_by c.self.inside.committed.items c.take_in.new.running.entries c.take_in.new.sireads)) c.self.view_is
+    (posted_seen c.self.inside.committed.items c.self.inside.running.entries c.take_in.new.running.entries c.self.inside.sireads c.take_in.new.sireads c.args.txn c.args.limit c.args.footprint c.in_ok-part.part.changes.items
     c.in_ok-take_in.ensures.running c.in_ok-take_in.ensures.noted))

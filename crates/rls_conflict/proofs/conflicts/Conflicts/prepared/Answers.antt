@@ -38,5 +38,5 @@ returns c =
     (transaction_is c.self.inside.sireads c.args.txn c.in-Some.it.now c.in_ok-transaction.transaction c.snap-3.result c.in_ok-noted.noted c.in_ok-changes.changes
     c.in_ok-transaction.ensures c.snap-3.ensures c.in_ok-noted.ensures (c.in_ok-changes.ensures ∙ c.changes-2.ensures))
     covered c.in_ok-noted.noted c.in_ok-covered.covered c.in_ok-noted.ensures covered
-    (λ place. c.in_ok-read.ensures place ∙ ap (λ (snap : ℕ). is_place_of_writer c.self.inside.writers c.self.inside.sireads snap c.in_ok-noted.noted place) c.snap.ensures)
+    (λ place. c.in_ok-read.ensures place ∙ (λ i. is_place_of_writer c.self.inside.writers c.self.inside.sireads (c.snap.ensures i) (c.get-2.ensures i) place))
     (λ place. c.in_ok-readers.ensures place ∙ ap (λ (snap : ℕ). is_place_of_reader c.self.inside.sireads snap c.in_ok-covered.covered place) c.snap-2.ensures))

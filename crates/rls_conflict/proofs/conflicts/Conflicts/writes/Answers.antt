@@ -1,25 +1,33 @@
 use Rattle.std.specs.Prelude.{◌≡◌, ℕ, ◌-◌, List, length, drop, Some, true}
 use Rattle.std.specs.Option.{option_copied}
-use Rattle.std.proofs.Common.{ap, sym, ◌∙◌, subst, arith}
+use Rattle.std.proofs.Common.{refl, ap, sym, ◌∙◌, subst, arith}
 use Rattle.std.proofs.lemmas.List.{length-drop, take_all}
 use Rattle.rls_value.specs.declared.object.Object.{Object}
 use Rattle.rls_siread.specs.Covering.{written_of}
 use Rattle.rls_conflict.specs.Begun.{at_number}
 use Rattle.rls_conflict.specs.Known.{Known, is_running}
-use Rattle.rls_conflict.specs.Written.{IsFree, IsWritten}
+use Rattle.rls_conflict.specs.Written.{writes_object, IsFree, IsWritten}
 use Rattle.rls_conflict.specs.declared.committed.Committed.{Committed}
 use Rattle.rls_conflict.specs.Concurrent.{NoneWrote, HasWritten, AreWritersBeside}
-use Rattle.rls_conflict.proofs.UpdaterLemmas.{writers_beside, is_free, is_by_other, not_missing}
+use Rattle.rls_conflict.proofs.UpdaterLemmas.{none_beside, writers_beside, is_free, is_by_other, not_missing}
 use Rattle.rls_conflict.proofs.conflicts.Conflicts.writes.Goals as goal
+
+pub returns-then-is_alone-clause-ok : goal.returns-then-is_alone-clause-ok
+returns-then-is_alone-clause-ok c =
+    let look : at_number c.args.txn c.self.inside.running.entries ≡ Some c.in-Some.it.now = sym c.get.ensures.value ∙ ap option_copied c.in-Some.is in
+    let end : c.in-Some.it.now.snap ≡ length c.self.inside.committed.items =
+    sym c.snap-snap.ensures ∙ c.if-is_alone.ensures.end refl ∙ ap (λ (them : List Committed). length them) c.as_slice-committed.ensures.value in
+    subst (λ (known : Known). IsFree known c.args.txn c.args.delta.now) c.self.view_is
+    (λ object written. none_beside c.self.inside.committed.items c.self.inside.running.entries c.self.inside.sireads c.args.txn (λ other. writes_object other.changes object) c.in-Some.it.now look (c.if-is_alone.ensures.one refl) end)
 
 pub first_written-requires : goal.first_written-requires
 first_written-requires c =
     let look : at_number c.args.txn c.self.inside.running.entries ≡ Some c.in-Some.it.now = sym c.get.ensures.value ∙ ap option_copied c.in-Some.is in
-    let all = c.as_slice-2.result.now in
+    let all = c.as_slice-committed.result.now in
     let snap = c.snap-snap.result in
     let beside = λ (since : List Committed) (n : ℕ). AreWritersBeside since c.self.inside.running.entries c.self.inside.sireads c.self.inside.writers c.args.txn n in
     subst (λ (since : List Committed). beside since snap) (sym (take_all (length all - snap) (drop snap all) (omega (arith, length-drop snap all))))
-    (subst (λ (them : List Committed). beside (drop snap them) snap) (sym c.as_slice-2.ensures.value)
+    (subst (λ (them : List Committed). beside (drop snap them) snap) (sym c.as_slice-committed.ensures.value)
     (subst (λ (n : ℕ). beside (drop n c.self.inside.committed.items) n) (sym c.snap-snap.ensures)
     (writers_beside c.self.inside.committed.items c.self.inside.running.entries c.self.inside.sireads c.self.inside.writers c.self.inside.floor
     c.self.invariant.entries c.self.invariant.indexed c.self.invariant.differ c.args.txn c.in-Some.it.now look (c.self.invariant.snaps c.args.txn c.in-Some.it.now look).0)))

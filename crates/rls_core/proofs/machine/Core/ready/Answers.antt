@@ -4,11 +4,14 @@ use Rattle.std.specs.Vec.{vec_capacity}
 use Rattle.rls_core.specs.Seen.{Seen, runs_at}
 use Rattle.rls_core.specs.Calls.{IsReady, NotReady}
 use Rattle.rls_core.proofs.JoinedLemmas.{joined_there}
-use Rattle.rls_core.proofs.CallLemmas.{is_there, all_ready, all_barred}
+use Rattle.rls_core.proofs.CallLemmas.{is_there, sees_newest, all_ready, all_barred}
 use Rattle.rls_core.proofs.machine.Core.ready.Goals as goal
 
-pub make-requires : goal.make-requires
-make-requires c = is_there c.self.inside.committed.items c.self.inside.conflicts c.self.inside.running.entries c.self.inside.next c.self.inside.versions.states (vec_capacity c.self.inside.committed) c.self.inside.versions.room c.self.invariant c.args.txn c.in-Some.opened.now (sym c.in-Some.ensures.value)
+pub make-requires-clause-running : goal.make-requires-clause-running
+make-requires-clause-running c = is_there c.self.inside.committed.items c.self.inside.conflicts c.self.inside.running.entries c.self.inside.next c.self.inside.versions.states (vec_capacity c.self.inside.committed) c.self.inside.versions.room c.self.invariant c.args.txn c.in-Some.opened.now (sym c.in-Some.ensures.value)
+
+pub make-requires-clause-view : goal.make-requires-clause-view
+make-requires-clause-view c = sees_newest c.self.inside.committed.items c.self.inside.conflicts c.self.inside.running.entries c.self.inside.next c.self.inside.versions.states (vec_capacity c.self.inside.committed) c.self.inside.versions.room c.self.invariant c.args.txn c.in-Some.opened.now (sym c.in-Some.ensures.value)
 
 pub returns-in-Some-clause-ok : goal.returns-in-Some-clause-ok
 returns-in-Some-clause-ok c =

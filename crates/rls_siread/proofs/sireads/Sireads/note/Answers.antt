@@ -13,12 +13,12 @@ pub invariant_of-self : goal.invariant_of-self
 invariant_of-self c =
     let old : Locks = locks_by c.self.inside.alone c.self.inside.index.holders.entries c.self.inside.notes.entries in
     let new : Locks = locks_by c.note_reads.new.alone c.note_reads.new.index.holders.entries c.note_reads.new.notes.entries in
-    kept_noted c.note_reads.result c.args.txn c.self.inside.least (noted_with c.args.limit (noted_by old c.args.txn) c.args.footprint.now) old new c.note_reads.ensures.ok c.note_reads.ensures.err c.self.invariant
+    kept_noted c.note_reads.result c.args.txn c.self.inside.least (noted_with c.args.limit (noted_by old c.args.txn) c.args.footprint) old new c.note_reads.ensures.ok c.note_reads.ensures.err c.self.invariant
 
 pub returns-clause-ok : goal.returns-clause-ok
 returns-clause-ok c =
     let new : Locks = locks_by c.note_reads.new.alone c.note_reads.new.index.holders.entries c.note_reads.new.notes.entries in
-    subst (λ (locks : Locks). OnOk c.note_reads.result (HasNoted c.args.txn (noted_with c.args.limit (noted_by locks c.args.txn) c.args.footprint.now) locks new)) c.self.view_is c.note_reads.ensures.ok
+    subst (λ (locks : Locks). OnOk c.note_reads.result (HasNoted c.args.txn (noted_with c.args.limit (noted_by locks c.args.txn) c.args.footprint) locks new)) c.self.view_is c.note_reads.ensures.ok
 
 pub returns-clause-err : goal.returns-clause-err
 returns-clause-err c =
