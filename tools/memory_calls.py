@@ -14,7 +14,7 @@ CRATES = """shared_map rls_value rls_expr rls_text rls_hints rls_printing rls_ca
     rls_audit_lines rls_audit rls_check rls_command_line""".split()
 # The crates whose calls are parts of one of these: what they ask for is asked for there.
 INNER = {
-    "shared": "parse", "rls_statement": "grant", "rls_codec": "read_line", "rls_recursion": "run_statement",
+    "shared": "parse", "html_text": "Audit::page", "rls_statement": "grant", "rls_codec": "read_line", "rls_recursion": "run_statement",
     "rls_evaluation": "run_statement", "rls_guard": "run_statement", "rls_ddl": "run_statement", "rls_expansion": "run_statement",
     "rls_judging": "run_statement", "rls_dml": "run_statement",
 }
@@ -75,7 +75,8 @@ WHOLE = {
     "run_script": "read_script run_script_telling write_answer",
     "run_threads": "Notes::join Plan::into_parts read_plan run_threads_telling",
     "request_of": "", "write_report": "", "findings": "Finding::line Named::follow Named::opening have_same_contents rebuilding_script",
-    "Audit::graph": "", "Audit::list": "", "Audit::placed": "", "Listing::next": "", "Why::long_lines": "", "write_numbered": "wheres_of",
+    "Audit::graph": "", "Audit::list": "", "Audit::page": "Page::foot Page::head Page::turn Page::walk",
+    "Audit::placed": "", "Listing::next": "", "Why::long_lines": "", "write_numbered": "wheres_of",
 }
 
 

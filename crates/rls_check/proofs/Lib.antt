@@ -27,3 +27,7 @@ pub mod GraphSetLemmas
 pub mod GraphEdgeLemmas
 pub mod GraphDrawnLemmas
 pub mod GraphCommonLemmas
+pub mod PieceLemmas
+pub mod SurveyLemmas
+pub mod PageLemmas
+pub mod PageTextLemmas

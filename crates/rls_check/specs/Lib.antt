@@ -22,6 +22,15 @@ pub mod GraphLabels
 pub mod GraphTexts
 pub mod Graphs
 pub mod GraphSteps
+pub mod Pieces
+pub mod Tallies
+pub mod Plots
+pub mod Surveys
+pub mod PageParts
+pub mod PageDecisions
+pub mod PageRows
+pub mod PageStatements
+pub mod Pages
 pub mod Forms
 pub mod Keeping
 pub mod KeepingLaws

@@ -121,7 +121,7 @@ fn is_row_among(mut rows: &[RowId], id: RowId) -> bool
     false
 }
 
-fn is_same_id(id: RowId, other: RowId) -> bool
+pub(crate) fn is_same_id(id: RowId, other: RowId) -> bool
     ensures { result ≡ spec_is_same_id id other }
 {
     match id.cmp(&other) {

@@ -207,7 +207,7 @@ fn befores_along(
     edges
 }
 
-fn conflicts_along(
+pub(crate) fn conflicts_along(
     alloc: Global,
     snaps: &[usize],
     places: &[usize],
@@ -222,7 +222,7 @@ fn conflicts_along(
 }
 
 /// How many had committed when each began.
-fn snaps_of(alloc: Global, mut transactions: &[Stored]) -> Result<Vec<usize>, AllocError>
+pub(crate) fn snaps_of(alloc: Global, mut transactions: &[Stored]) -> Result<Vec<usize>, AllocError>
     ensures { IfOk result (λ snaps. snaps.items ≡ map snap_of transactions.entry.now) }
 {
     let mut snaps = Vec::with_capacity(alloc, transactions.len())?;

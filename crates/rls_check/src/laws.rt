@@ -10,6 +10,8 @@ ghost use Rattle.rls_audit.specs.rls_audit_lines.specs.declared.lines.Shown.{Sho
 ghost use Rattle.rls_audit.specs.Lines as shown;
 ghost use Rattle.rls_check.specs.Audited.{lines_of};
 ghost use Rattle.rls_check.specs.Checking.{IsFirst};
+ghost use Rattle.html_text.specs.Html.{marks_of};
+ghost use Rattle.rls_check.specs.Pieces.{AreWords, Piece, markup, page_text};
 ghost use Rattle.rls_check.specs.Keeping.{AreKept, KeepsPut, NamesKey, lines_read};
 ghost use Rattle.rls_audit.specs.FirstKeys.{KeysAreFirst};
 ghost use Rattle.rls_check.specs.Wholes.{AreConverted, AreSomeAudit, BeginAudit, HasConverted, HasRead, IsAuditOf};
@@ -19,6 +21,8 @@ ghost use Rattle.rls_check.specs.declared.converting.Converter.{Converter};
 ghost use Rattle.rls_check.specs.declared.finding.Finding.{Finding};
 ghost use Rattle.rls_check.specs.declared.transaction.Put.TheVariants as put;
 ghost use Rattle.rls_check.specs.declared.transaction.Transaction.{Transaction};
+
+use html_text::texts_open_nothing;
 
 /// Where an audit that was read holds, of records that an audit can show, the lines show just what was found to hold: none of
 /// them has a table whose key names no column, since of such a table no key is kept that has its columns.
@@ -47,3 +51,11 @@ pub fn read_texts_begin_audits()
     ensures read { (texts : List (List ℕ)) (reader : Reader) → HasRead texts reader → BeginAudit texts }
     ensures converted { (texts written : List (List ℕ)) (converter : Converter) → HasConverted texts written converter → BeginAudit texts }
 {}
+
+/// What opens or ends a tag or an attribute of a page is of its markup alone: no byte of a text from an audit or a command line is. So
+/// pages that differ in numbers and texts alone have the same tags and attributes.
+pub fn pages_have_their_own_marks()
+    ensures { (pieces : List Piece) → AreWords pieces → marks_of (page_text pieces) ≡ marks_of (markup pieces) }
+{
+    texts_open_nothing()
+}

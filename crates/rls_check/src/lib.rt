@@ -22,13 +22,24 @@ mod long_texts;
 mod matching;
 mod neighbours;
 mod ordering;
+mod page;
+mod page_decisions;
+mod page_head;
+mod page_look;
+mod page_parts;
+mod page_rows;
+mod page_statements;
 mod pictures;
+mod pieces;
 mod placed;
+mod plot;
 mod running;
 mod shown_objects;
 mod shown_rows;
 mod shown_texts;
 mod stored;
+mod survey;
+mod tallies;
 mod texts;
 mod transaction;
 mod walked;
@@ -43,9 +54,12 @@ pub use finding::Finding;
 pub use graph::Graph;
 pub use graph_form::{GraphForm, Picture};
 pub use laws::{
-    conversions_are_same, lines_are_shown, meant_lines_are_read, read_texts_begin_audits,
+    conversions_are_same, lines_are_shown, meant_lines_are_read, pages_have_their_own_marks,
+    read_texts_begin_audits,
 };
 pub use listing::{Listed, Listing, numbers_stand_out};
+pub use page::{Page, PageAsked};
+pub use page_look::Look;
 pub use placed::Placed;
 pub use rls_agreement;
 pub use rls_audit;

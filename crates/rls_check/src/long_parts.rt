@@ -60,7 +60,7 @@ fn part_line(alloc: Global, indent: &str, part: &Part) -> Result<String, AllocEr
 }
 
 /// A truth value, or a value of another type.
-fn comes_text(alloc: Global, value: &Value) -> Result<String, AllocError>
+pub(crate) fn comes_text(alloc: Global, value: &Value) -> Result<String, AllocError>
     ensures { IfOk result (λ text. string_bytes text ≡ spec.comes_text value.now) }
 {
     match value {
@@ -85,7 +85,7 @@ fn compared_text(alloc: Global, values: &Option<Expr>) -> Result<String, AllocEr
 }
 
 /// The expression in its one written form.
-fn expr_text(alloc: Global, expr: &Expr) -> Result<String, AllocError>
+pub(crate) fn expr_text(alloc: Global, expr: &Expr) -> Result<String, AllocError>
     ensures { IfOk result (λ text. string_bytes text ≡ spec.expr_text expr.now) }
 {
     print_expr(alloc, expr)
@@ -118,7 +118,12 @@ fn push_seen_rows(
     Ok(())
 }
 
-fn seen_line(alloc: Global, indent: &str, seen: &Seen, row: &SeenRow) -> Result<String, AllocError>
+pub(crate) fn seen_line(
+    alloc: Global,
+    indent: &str,
+    seen: &Seen,
+    row: &SeenRow,
+) -> Result<String, AllocError>
     ensures { IfOk result (λ line. string_bytes line ≡ spec.seen_line indent.now seen.now row.now) }
 {
     let table = &seen.table;

@@ -157,7 +157,7 @@ fn push_exempt(
     push_escaped_line(text, line.as_str())
 }
 
-fn exemption_text(
+pub(crate) fn exemption_text(
     alloc: Global,
     role: &Name,
     table: &Name,
@@ -236,7 +236,7 @@ fn push_policy(alloc: Global, policy: &Consulted, text: &mut Vec<u8>) -> Result<
     }
 }
 
-fn other_command_line(alloc: Global, policy: &Consulted) -> Result<String, AllocError>
+pub(crate) fn other_command_line(alloc: Global, policy: &Consulted) -> Result<String, AllocError>
     ensures { IfOk result (λ line. string_bytes line ≡ spec.other_command_line policy.now) }
 {
     let name = &policy.policy;
@@ -244,7 +244,7 @@ fn other_command_line(alloc: Global, policy: &Consulted) -> Result<String, Alloc
     format!(in alloc; "  policy {name} is not asked: it is FOR {kind}")
 }
 
-fn other_roles_line(alloc: Global, policy: &Consulted) -> Result<String, AllocError>
+pub(crate) fn other_roles_line(alloc: Global, policy: &Consulted) -> Result<String, AllocError>
     ensures { IfOk result (λ line. string_bytes line ≡ spec.other_roles_line policy.now) }
 {
     let name = &policy.policy;
@@ -252,7 +252,7 @@ fn other_roles_line(alloc: Global, policy: &Consulted) -> Result<String, AllocEr
     format!(in alloc; "  policy {name} is not asked: it is TO {roles}")
 }
 
-fn no_expression_line(alloc: Global, policy: &Consulted) -> Result<String, AllocError>
+pub(crate) fn no_expression_line(alloc: Global, policy: &Consulted) -> Result<String, AllocError>
     ensures { IfOk result (λ line. string_bytes line ≡ spec.no_expression_line policy.now) }
 {
     let name = &policy.policy;
@@ -301,7 +301,7 @@ fn put_said(
 }
 
 /// To whom it is, and which of its expressions is asked.
-fn slot_line(alloc: Global, policy: &Consulted) -> Result<String, AllocError>
+pub(crate) fn slot_line(alloc: Global, policy: &Consulted) -> Result<String, AllocError>
     ensures { IfOk result (λ line. string_bytes line ≡ spec.slot_line policy.now) }
 {
     let roles = roles_text(alloc, policy.to.as_slice())?;

@@ -33,7 +33,7 @@ struct Drawing<'a> {
     drawn: Vec<bool>,
 }
 
-fn all_drawn(alloc: Global, count: usize, drawn: bool) -> Result<Vec<bool>, AllocError>
+pub(crate) fn all_drawn(alloc: Global, count: usize, drawn: bool) -> Result<Vec<bool>, AllocError>
     ensures { IfOk result (λ all. all.items ≡ replicate count drawn) }
 {
     let mut all = Vec::with_capacity(alloc, count)?;
@@ -45,7 +45,7 @@ fn all_drawn(alloc: Global, count: usize, drawn: bool) -> Result<Vec<bool>, Allo
 }
 
 /// Those of these edges are drawn.
-fn mark(drawn: &mut Vec<bool>, mut conflicts: &[Conflict])
+pub(crate) fn mark(drawn: &mut Vec<bool>, mut conflicts: &[Conflict])
     ensures { drawn.new.items ≡ drawn_with drawn.old.items conflicts.entry.now }
 {
     while let [it, rest @ ..] = conflicts {

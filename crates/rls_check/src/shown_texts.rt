@@ -102,7 +102,7 @@ impl Turn {
     }
 
     /// The rows that are asked for.
-    fn rows_wanted(
+    pub(crate) fn rows_wanted(
         &self,
         alloc: Global,
         wanted: &ShownFilter,
@@ -340,7 +340,7 @@ fn is_told(one: &RowOutcome) -> bool
     )
 }
 
-fn is_seen(one: &RowOutcome) -> bool
+pub(crate) fn is_seen(one: &RowOutcome) -> bool
     ensures { result ≡ spec.is_seen one.now }
 {
     matches!(one.word, RowWord::Seen)

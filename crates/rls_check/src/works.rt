@@ -53,7 +53,7 @@ pub(crate) fn note_all<'a>(
 }
 
 /// What was found before, else whether the statement comes to another answer.
-fn first_of(found: Option<Finding>, turn: &Turn) -> Option<Finding>
+pub(crate) fn first_of(found: Option<Finding>, turn: &Turn) -> Option<Finding>
     ensures { result ≡ found_first found turn.now }
 {
     match found {
@@ -64,7 +64,7 @@ fn first_of(found: Option<Finding>, turn: &Turn) -> Option<Finding>
 }
 
 /// Notes what the statement reads and changes.
-fn note(alloc: Global, works: &mut Vec<Work>, turn: Turn) -> Result<(), AllocError>
+pub(crate) fn note(alloc: Global, works: &mut Vec<Work>, turn: Turn) -> Result<(), AllocError>
     ensures { OnOk result (works.new.items ≡ noted_turn works.old.items turn) }
 {
     let noted = note_at(alloc, works, turn.place, &turn.outcome);

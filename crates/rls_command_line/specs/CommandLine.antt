@@ -16,6 +16,7 @@ use Rattle.rls_command_line.specs.declared.words.Shown.{Shown}
 use Rattle.rls_command_line.specs.declared.words.AuditState.{AuditState}
 use Rattle.rls_command_line.specs.declared.words.Graphed.{Graphed}
 use Rattle.rls_command_line.specs.declared.words.GraphWanted.{GraphWanted}
+use Rattle.rls_command_line.specs.declared.words.Reported.{Reported}
 use Rattle.rls_command_line.specs.declared.words.Language.{Language}
 use Rattle.rls_command_line.specs.declared.words.Language.TheVariants as l
 use Rattle.rls_command_line.specs.declared.words.Tests.{Tests}
@@ -130,6 +131,13 @@ dot_flag = record (new_rule (codes "dot")) { long = Some (codes "dot"); action =
 abbrev pub graph_line : App
 graph_line = with_rule (with_rule (with_rule (with_rule (new_app (codes "graph")) (needed (codes "AUDIT"))) mermaid_flag) dot_flag) all_flag
 
+-- --rows N
+abbrev pub rows_option : Rule
+rows_option = record (new_rule (codes "rows")) { long = Some (codes "rows"); value_names = 1 }
+
+abbrev pub report_line : App
+report_line = with_rule (with_rule (with_rule (with_rule (with_rule (with_rule (with_rule (with_rule (new_app (codes "report")) (needed (codes "AUDIT"))) (needed (codes "OUT"))) (many_option (codes "role"))) (many_option (codes "login"))) (many_option (codes "txn"))) (many_option (codes "table"))) denied_flag) rows_option
+
 abbrev pub migrate_line : App
 migrate_line = with_rule (with_rule (new_app (codes "migrate")) (needed (codes "AUDIT"))) (needed (codes "OUT"))
 
@@ -141,7 +149,7 @@ abbrev pub program_line : App
 program_line = on_top (λ (s : Shape). record s { has_version = true; subcommand_required = true }) (new_app (codes "rlsdb"))
 
 abbrev pub command_line : App
-command_line = with_subcommand (with_subcommand (with_subcommand (with_subcommand (with_subcommand (with_subcommand (with_subcommand (with_subcommand (with_subcommand (with_subcommand (with_subcommand program_line run_line.top) test_line.top) order_line.top) check_line.top) explain_line.top) shown_line.top) lint_line.top) dump_line.top) graph_line.top) migrate_line.top) parse_line.top
+command_line = with_subcommand (with_subcommand (with_subcommand (with_subcommand (with_subcommand (with_subcommand (with_subcommand (with_subcommand (with_subcommand (with_subcommand (with_subcommand (with_subcommand program_line run_line.top) test_line.top) order_line.top) check_line.top) explain_line.top) shown_line.top) lint_line.top) dump_line.top) graph_line.top) report_line.top) migrate_line.top) parse_line.top
 
 -- ---- what words ask for
 
@@ -240,6 +248,32 @@ pub record IsGraph (rows : List Row) (it : Graphed) : Type 0 where
   pub audit : first_of (codes "AUDIT") rows ≡ Some it.audit.now
   pub wanted : IsGraphWanted rows it.wanted
 
+-- as many as the value says, or 50
+abbrev pub IsMostOf : Option Text → ℕ → Type 0
+IsMostOf None most = most ≡ 50
+IsMostOf (Some text) most = IsNumberOf text most
+
+abbrev pub IsMost : List Row → ℕ → Type 0
+IsMost rows most = IsMostOf (first_of (codes "rows") rows) most
+
+-- which statements and rows a report has
+pub record IsReportWanted (words : List Row) (it : Wanted) : Type 0 where
+  pub roles : AllZip IsNameOf (values_in (codes "role") words) it.roles
+  pub logins : AllZip IsNameOf (values_in (codes "login") words) it.logins
+  pub txns : AllZip IsNumberOf (values_in (codes "txn") words) it.txns
+  pub tables : AllZip IsNameOf (values_in (codes "table") words) it.tables
+  pub rows : it.rows ≡ []
+  pub denied : IsFlag (codes "denied") words it.denied
+  pub all : it.all ≡ false
+  pub json : it.json ≡ false
+
+-- an audit, the file of its report, and these
+pub record IsReport (rows : List Row) (it : Reported) : Type 0 where
+  pub audit : first_of (codes "AUDIT") rows ≡ Some it.audit.now
+  pub out : first_of (codes "OUT") rows ≡ Some it.out.now
+  pub wanted : IsReportWanted rows it.wanted
+  pub most : IsMost rows it.most
+
 -- the command of that name, with these words, asks for it
 abbrev pub AsksFor : Text → List Row → Request → Type 0
 AsksFor name rows (q.Run it) = (name ≡ codes "run") × IsRun rows it × IsFlag (codes "stop") rows false × IsFlag (codes "numbers") rows false
@@ -254,6 +288,7 @@ AsksFor name rows (q.Shown it) = (name ≡ codes "shown") × IsShownLine rows it
 AsksFor name rows (q.Lint it) = (name ≡ codes "lint") × IsAuditState rows it
 AsksFor name rows (q.Dump it) = (name ≡ codes "dump") × IsAuditState rows it
 AsksFor name rows (q.Graph it) = (name ≡ codes "graph") × IsGraph rows it
+AsksFor name rows (q.Report it) = (name ≡ codes "report") × IsReport rows it
 AsksFor name rows (q.Parse file) = (name ≡ codes "parse") × (first_of (codes "FILE") rows ≡ Some file.now)
 AsksFor name rows (q.Migrate audit out) = (name ≡ codes "migrate") × (first_of (codes "AUDIT") rows ≡ Some audit.now) × (first_of (codes "OUT") rows ≡ Some out.now)
 

@@ -9,6 +9,7 @@ ghost use Rattle.rls_command_line.specs.CommandLine.{Asks, AsksFor, IsFlag, IsMi
 use crate::dump_line::{dump_command, dump_of};
 use crate::graph_line::{graph_command, graph_of};
 use crate::lint_line::{lint_command, lint_of};
+use crate::report_line::{report_command, report_of};
 use crate::shown_line::{shown_command, shown_of};
 use crate::words::{Checks, Explain, Request, ScriptFile, Tests, number_of, row_of};
 use clap::{Arg, ArgAction, ArgMatches, Command};
@@ -28,14 +29,15 @@ Examples:
     rlsdb lint AUDIT
     rlsdb dump AUDIT --after 12
     rlsdb graph AUDIT --mermaid
+    rlsdb report AUDIT report.html
 
 Exit status:
     0  done, even if statements were refused
     1  a file cannot be read or written, or memory ran out
     2  usage
     3  `check` says no, a test fails, an ERROR ends `run --stop`, a line of an audit is bad, there is no such decision, `shown`,
-       `graph` or `order --long` finds a fault, `lint` finds a mistake or a fault, `dump` finds a fault or no script, or `parse`
-       finds a line that is no statement";
+       `graph`, `report` or `order --long` finds a fault, `lint` finds a mistake or a fault, `dump` finds a fault or no script, or
+       `parse` finds a line that is no statement";
 
 const AFTER_RUN: &str = "\
 Each line of FILE is a command: `LABEL: \\connect ROLE` or `LABEL: STATEMENT`. The superuser `postgres` exists from the start:
@@ -167,6 +169,7 @@ fn request_in<'a>(
         "lint" => lint_of(words),
         "dump" => dump_of(words),
         "graph" => graph_of(words),
+        "report" => report_of(alloc, words),
         "migrate" => migrate_of(words),
         "parse" => Ok(Request::Parse(value(words, "FILE")?)),
         _ => Err(Mistake::Nothing),
@@ -324,6 +327,7 @@ fn command<'a>(alloc: Global) -> Result<Command<'a>, AllocError>
     let program = program.subcommand(lint_command(alloc)?)?;
     let program = program.subcommand(dump_command(alloc)?)?;
     let program = program.subcommand(graph_command(alloc)?)?;
+    let program = program.subcommand(report_command(alloc)?)?;
     let program = program.subcommand(migrate_command(alloc)?)?;
     let program = program.subcommand(parse_command(alloc)?)?;
     Ok(program)
@@ -580,11 +584,7 @@ fn migrate_command<'a>(alloc: Global) -> Result<Command<'a>, AllocError>
         "AUDIT",
         "The audit, as `rlsdb run --audit` writes it",
     );
-    let out = file(
-        alloc,
-        "OUT",
-        "The file that it is written to, or `-` for standard output",
-    );
+    let out = out(alloc);
     let command = named(
         alloc,
         "migrate",
@@ -615,6 +615,17 @@ pub fn audit<'a>(alloc: Global) -> Arg<'a>
         alloc,
         "AUDIT",
         "The audit, as `rlsdb run --audit` writes it, or `-` for standard input",
+    )
+}
+
+pub fn out<'a>(alloc: Global) -> Arg<'a>
+    ensures rule { rule_of result ≡ needed (codes "OUT") }
+    ensures local { result.global ≡ false }
+{
+    file(
+        alloc,
+        "OUT",
+        "The file that it is written to, or `-` for standard output",
     )
 }
 

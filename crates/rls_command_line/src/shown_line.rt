@@ -69,7 +69,7 @@ fn wanted_of<'a>(alloc: Global, words: &ArgMatches<'a>) -> Result<Wanted, Mistak
 }
 
 /// The names that are the option's values.
-fn names<'a>(
+pub fn names<'a>(
     alloc: Global,
     words: &ArgMatches<'a>,
     id: &str,
@@ -116,7 +116,7 @@ fn name_of<'a>(alloc: Global, text: &'a str, shown: &'static str) -> Result<Name
 }
 
 /// The numbers that --txn has.
-fn txns<'a>(alloc: Global, words: &ArgMatches<'a>) -> Result<Items<u64>, Mistake<'a>>
+pub fn txns<'a>(alloc: Global, words: &ArgMatches<'a>) -> Result<Items<u64>, Mistake<'a>>
     ensures ok { IfOk result (AllZip IsNumberOf (unwrap_or (all_of (codes "txn") (rows_of (found_of words.now))) [])) }
     ensures err { IfErr result IsOwn }
 {
@@ -188,7 +188,7 @@ pub fn shown_command<'a>(alloc: Global) -> Result<Command<'a>, AllocError>
     Ok(command)
 }
 
-fn role<'a>(alloc: Global) -> Arg<'a>
+pub fn role<'a>(alloc: Global) -> Arg<'a>
     ensures rule { rule_of result ≡ many_option (codes "role") }
     ensures local { result.global ≡ false }
 {
@@ -196,7 +196,7 @@ fn role<'a>(alloc: Global) -> Arg<'a>
     repeated(alloc, "role", "ROLE", help)
 }
 
-fn login<'a>(alloc: Global) -> Arg<'a>
+pub fn login<'a>(alloc: Global) -> Arg<'a>
     ensures rule { rule_of result ≡ many_option (codes "login") }
     ensures local { result.global ≡ false }
 {
@@ -204,14 +204,14 @@ fn login<'a>(alloc: Global) -> Arg<'a>
     repeated(alloc, "login", "ROLE", help)
 }
 
-fn txn<'a>(alloc: Global) -> Arg<'a>
+pub fn txn<'a>(alloc: Global) -> Arg<'a>
     ensures rule { rule_of result ≡ many_option (codes "txn") }
     ensures local { result.global ≡ false }
 {
     repeated(alloc, "txn", "TXN", "Only those of this transaction")
 }
 
-fn table<'a>(alloc: Global) -> Arg<'a>
+pub fn table<'a>(alloc: Global) -> Arg<'a>
     ensures rule { rule_of result ≡ many_option (codes "table") }
     ensures local { result.global ≡ false }
 {
@@ -237,7 +237,7 @@ fn repeated<'a>(alloc: Global, id: &'static str, value: &'static str, help: &'st
         .help(help)
 }
 
-fn denied<'a>(alloc: Global) -> Arg<'a>
+pub fn denied<'a>(alloc: Global) -> Arg<'a>
     ensures rule { rule_of result ≡ denied_flag }
     ensures local { result.global ≡ false }
 {

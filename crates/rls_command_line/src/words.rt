@@ -79,6 +79,18 @@ pub struct Graphed<'a> {
     pub wanted: GraphWanted,
 }
 
+/// An audit of which a report is asked for.
+#[derive(Drop)]
+pub struct Reported<'a> {
+    /// Its file, or `-` for standard input.
+    pub audit: &'a str,
+    /// The file that the report is written to, or `-` for standard output.
+    pub out: &'a str,
+    pub wanted: Wanted,
+    /// So many rows of a table in a statement at most.
+    pub most: u64,
+}
+
 /// How the graph is to be written: as lines, or as a picture.
 #[derive(Clone, Copy)]
 pub struct GraphWanted {
@@ -131,6 +143,7 @@ pub enum Request<'a> {
     Lint(AuditState<'a>),
     Dump(AuditState<'a>),
     Graph(Graphed<'a>),
+    Report(Reported<'a>),
     /// From the first file into the second, or, where that is `-`, to standard output.
     Migrate(&'a str, &'a str),
     /// What of this script isn't taken.

@@ -2,6 +2,7 @@ pub mod KeyLemmas
 pub mod Telling
 pub mod Absorbing
 pub mod OuterColumnsLemmas
+pub mod OuterValueLemmas
 pub mod CachedSubplanLemmas
 pub mod RelationLemmas
 pub mod Exempting

@@ -3,6 +3,7 @@ pub mod Environments
 pub mod Keys
 pub mod Eval
 pub mod OuterColumns
+pub mod OuterValues
 pub mod Items
 pub mod Depths
 pub mod Showing

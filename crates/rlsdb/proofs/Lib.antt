@@ -11,5 +11,6 @@ pub mod GraphLemmas
 pub mod ListingLemmas
 pub mod NumberLemmas
 pub mod ParsingLemmas
+pub mod ReportLemmas
 pub mod ShownLemmas
 pub mod TestLemmas

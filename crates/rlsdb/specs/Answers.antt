@@ -38,6 +38,7 @@ use Rattle.rlsdb.specs.Linting.{IsLintOf, is_all_right}
 use Rattle.rlsdb.specs.Dumping.{IsDumpOf}
 use Rattle.rlsdb.specs.Numbers.{IsNumberedText}
 use Rattle.rlsdb.specs.Graphing.{IsGraphed}
+use Rattle.rlsdb.specs.Reporting.{IsReportOf}
 use Rattle.rlsdb.specs.Tests.{AreTested, IsStopText}
 
 -- What was taken grew by the text of the script that was given, run in phases or in the order of its lines. Told tersely, serialization
@@ -197,6 +198,8 @@ Answers (q.Shown asked) written done = (texts : List (List ℕ)) × (ending : En
 Answers (q.Lint asked) written done = (texts : List (List ℕ)) × (ending : StateEnd) × IsLintOf asked.after texts written ending × (done ≡ is_all_right ending)
 Answers (q.Dump asked) written done = (texts : List (List ℕ)) × (ending : StateEnd) × IsDumpOf asked.after texts written ending × (done ≡ is_all_right ending)
 Answers (q.Graph asked) written done = (texts : List (List ℕ)) × (ending : Ending) × IsGraphOf (form_of asked.wanted) texts written ending × (done ≡ is_whole ending)
+Answers (q.Report asked) written done =
+    (texts : List (List ℕ)) × (taken : List ℕ) × (ending : Ending) × IsReportOf asked.audit.now (filter_of asked.wanted) asked.most texts taken ending × (written ≡ answered_part (is_output asked.out.now) taken) × (done ≡ is_whole ending)
 Answers (q.Parse name) written done = IsParsed written done
 Answers (q.Migrate from to) written done =
     (texts : List (List ℕ)) × (taken : List ℕ) × IsMigrationOf texts taken × (written ≡ answered_part (is_output to.now) taken) × (done ≡ true)

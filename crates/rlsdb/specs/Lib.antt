@@ -5,6 +5,7 @@ pub mod Linting
 pub mod Dumping
 pub mod Listing
 pub mod Graphing
+pub mod Reporting
 pub mod Answers
 pub mod Flaws
 pub mod Missing

@@ -11,12 +11,12 @@ ghost use Rattle.rlsdb.specs.Faults.{EndsAnswer, EndsWith, EndsMistake};
 use crate::device::{DeviceOut, Nowhere};
 use crate::fault::Fault;
 use crate::{
-    audits, dumping, graphing, hinting, linting, listing, numbering, running, shown, stopping,
-    testing,
+    audits, dumping, graphing, hinting, linting, listing, numbering, reporting, running, shown,
+    stopping, testing,
 };
 use clap::error::ErrorKind;
 use rls_command_line::{
-    Checks, Mistake, Request, ScriptFile, is_output, is_output_wanted, request_of,
+    Checks, Mistake, Reported, Request, ScriptFile, is_output, is_output_wanted, request_of,
 };
 use rls_session::rls_script::RunFault;
 use std::convert::AsStr;
@@ -127,7 +127,7 @@ fn serve<'a, W: Threads + Wait + Clock + Sync, D: Write + Drop>(
 }
 
 /// Does what is asked for.
-#[tactic(auto, using(crate::proofs::CommandLemmas::ran, crate::proofs::CommandLemmas::ordered, crate::proofs::ListingLemmas::answered_long, crate::proofs::CommandLemmas::checked, crate::proofs::CommandLemmas::explained, crate::proofs::ShownLemmas::answered_shown, crate::proofs::LintLemmas::answered_lint, crate::proofs::DumpLemmas::answered_dump, crate::proofs::GraphLemmas::answered_graph, crate::proofs::CommandLemmas::migrated, crate::proofs::CommandLemmas::parsed, crate::proofs::TestLemmas::tests_answered, crate::proofs::TestLemmas::stop_answered, crate::proofs::NumberLemmas::numbers_answered))]
+#[tactic(auto, using(crate::proofs::CommandLemmas::ran, crate::proofs::CommandLemmas::ordered, crate::proofs::ListingLemmas::answered_long, crate::proofs::CommandLemmas::checked, crate::proofs::CommandLemmas::explained, crate::proofs::ShownLemmas::answered_shown, crate::proofs::LintLemmas::answered_lint, crate::proofs::DumpLemmas::answered_dump, crate::proofs::GraphLemmas::answered_graph, crate::proofs::ReportLemmas::answered_report, crate::proofs::CommandLemmas::migrated, crate::proofs::CommandLemmas::parsed, crate::proofs::TestLemmas::tests_answered, crate::proofs::TestLemmas::stop_answered, crate::proofs::NumberLemmas::numbers_answered))]
 fn answer<'a, W: Threads + Wait + Clock + Sync, D: Write + Drop>(
     rt: &HostRuntime,
     waits: &W,
@@ -152,6 +152,7 @@ fn answer<'a, W: Threads + Wait + Clock + Sync, D: Write + Drop>(
         Request::Lint(asked) => Ok(linting::lint(rt, asked, output)?),
         Request::Dump(asked) => Ok(dumping::dump(rt, waits, asked, output)?),
         Request::Graph(asked) => Ok(graphing::graph(rt, asked, output)?),
+        Request::Report(asked) => Ok(report_page(rt, asked, output)?),
         Request::Migrate(from, to) => Ok(migrate(rt, from, to, output)?),
         Request::Parse(file) => Ok(hinting::parse(rt, file, output)?),
     }
@@ -227,6 +228,22 @@ fn check<'a, D: Write + Drop>(
     }
 }
 
+/// Writes a report of the audit.
+#[tactic(auto, using(crate::proofs::ReportLemmas::reported_together))]
+fn report_page<'a, D: Write + Drop>(
+    rt: &HostRuntime,
+    asked: Reported<'a>,
+    output: &mut DeviceOut<D>,
+) -> Result<bool, Fault<'a>>
+    ensures { IfOk result (λ done. GrewBy output.old.taken.bytes output.new.taken.bytes (λ written. Answers (Request.Report asked.entry) written done)) }
+{
+    if is_output(asked.out) {
+        reporting::report_out(rt, asked, output)
+    } else {
+        reporting::report(rt, asked)
+    }
+}
+
 /// Writes the audit again in the second format.
 #[tactic(auto, using(crate::proofs::CommandLemmas::migrated_together))]
 fn migrate<'a, D: Write + Drop>(
@@ -299,6 +316,11 @@ fn report(rt: &HostRuntime, fault: Fault<'_>) -> u8
         }
         Fault::Unwritten(name, error) => {
             let _ = eprintln!(rt; "rlsdb: cannot write\nrlsdb: {name}: {error}");
+        }
+        Fault::OverLong(name) => {
+            let _ = eprintln!(rt;
+                "rlsdb: {name}: over 20,000,000 bytes; narrow it by --role, --table or --txn"
+            );
         }
         // Who closes a pipe has read enough.
         Fault::Closed => {}

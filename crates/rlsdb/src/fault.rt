@@ -35,6 +35,8 @@ pub enum Fault<'a> {
     BadLine(u64),
     /// The same, of which audit, and what is wrong with the line.
     BadAudit(&'a str, u64, Flaw),
+    /// The page has more bytes than a page may have; it isn't written.
+    OverLong(&'a str),
     /// OUT would be written over what is read, or over the answers: this says which.
     SameFile(&'static str),
 }

@@ -19,6 +19,7 @@ mod missing;
 mod numbering;
 mod out_file;
 mod passed;
+mod reporting;
 mod running;
 mod same_file;
 mod script_file;

@@ -36,7 +36,7 @@ pub fn shown<'a, O: ScriptOut>(
 }
 
 /// The same statements and rows, as turns are asked for them.
-fn filter_of(wanted: Wanted) -> ShownFilter
+pub(crate) fn filter_of(wanted: Wanted) -> ShownFilter
     ensures { result ≡ filter_of wanted }
 {
     let Wanted {

@@ -1,5 +1,8 @@
 //! What came of a call, and the lines that tell it.
 
+ghost use Rattle.std.specs.Prelude.{◌≡◌};
+ghost use Rattle.scenario.specs.Endings as spec;
+
 /// What came of a call.
 #[derive(Clone, Copy)]
 pub enum Ending {
@@ -35,7 +38,9 @@ impl Ending {
 }
 
 /// How a call ends that was made, by whether it gave what is expected.
-pub fn made(is_expected: bool) -> Ending {
+pub fn made(is_expected: bool) -> Ending
+    ensures { result ≡ spec.made_as is_expected }
+{
     if is_expected {
         Ending::Done
     } else {
@@ -44,7 +49,9 @@ pub fn made(is_expected: bool) -> Ending {
 }
 
 /// The same of one that was refused once.
-pub fn made_again(is_expected: bool) -> Ending {
+pub fn made_again(is_expected: bool) -> Ending
+    ensures { result ≡ spec.made_again_as is_expected }
+{
     if is_expected {
         Ending::DoneAgain
     } else {

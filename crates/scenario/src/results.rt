@@ -1,5 +1,9 @@
 //! Values that may have been refused: both of two, one behind what was done with it, and what a refusal says.
 
+ghost use Rattle.std.specs.Prelude.{◌≡◌, ◌↔◌, true, string_bytes, Ok, Err, IfOk, OnErr};
+ghost use Rattle.rls_value.specs.declared.refusal.Refusal.TheVariants.{NoMemory};
+ghost use Rattle.scenario.specs.Results as spec;
+
 use rls_value::Refusal;
 use std::alloc::AllocError;
 
@@ -7,7 +11,9 @@ use std::alloc::AllocError;
 pub fn both<A: Drop, B: Drop>(
     one: Result<A, Refusal>,
     other: Result<B, Refusal>,
-) -> Result<(A, B), Refusal> {
+) -> Result<(A, B), Refusal>
+    ensures { result ≡ spec.both_of one other }
+{
     match one {
         Ok(one) => beside(one, other),
         Err(refusal) => {
@@ -17,7 +23,9 @@ pub fn both<A: Drop, B: Drop>(
     }
 }
 
-fn beside<A: Drop, B: Drop>(one: A, other: Result<B, Refusal>) -> Result<(A, B), Refusal> {
+fn beside<A: Drop, B: Drop>(one: A, other: Result<B, Refusal>) -> Result<(A, B), Refusal>
+    ensures { result ≡ spec.both_of (Ok one) other }
+{
     match other {
         Ok(other) => Ok((one, other)),
         Err(refusal) => {
@@ -28,7 +36,9 @@ fn beside<A: Drop, B: Drop>(one: A, other: Result<B, Refusal>) -> Result<(A, B),
 }
 
 /// The value, if what was done with it came to its end.
-pub fn after<T: Drop>(value: T, came: Result<(), Refusal>) -> Result<T, Refusal> {
+pub fn after<T: Drop>(value: T, came: Result<(), Refusal>) -> Result<T, Refusal>
+    ensures { result ≡ spec.value_after value came }
+{
     match came {
         Ok(()) => Ok(value),
         Err(refusal) => {
@@ -39,7 +49,10 @@ pub fn after<T: Drop>(value: T, came: Result<(), Refusal>) -> Result<T, Refusal>
 }
 
 /// The value, or want of memory as a refusal.
-pub fn taken<T: Drop>(came: Result<T, AllocError>) -> Result<T, Refusal> {
+pub fn taken<T: Drop>(came: Result<T, AllocError>) -> Result<T, Refusal>
+    ensures ok { IfOk came (λ value. result ≡ Ok value) }
+    ensures memory { OnErr came (result ≡ Err NoMemory) }
+{
     match came {
         Ok(value) => Ok(value),
         Err(error) => Err(Refusal::from(error)),
@@ -47,14 +60,18 @@ pub fn taken<T: Drop>(came: Result<T, AllocError>) -> Result<T, Refusal> {
 }
 
 /// Whether it is want of memory.
-pub fn wants_memory(refusal: Refusal) -> bool {
+pub fn wants_memory(refusal: Refusal) -> bool
+    ensures { result ≡ spec.is_memory refusal }
+{
     let is_memory = matches!(refusal, Refusal::NoMemory);
     drop(refusal);
     is_memory
 }
 
 /// Whether it came, and is so.
-pub fn holds(answer: Result<bool, Refusal>) -> bool {
+pub fn holds(answer: Result<bool, Refusal>) -> bool
+    ensures { result ≡ spec.is_so answer }
+{
     match answer {
         Ok(answer) => answer,
         Err(refusal) => {
@@ -65,6 +82,8 @@ pub fn holds(answer: Result<bool, Refusal>) -> bool {
 }
 
 /// Whether the text is that one.
-pub fn is_text(text: String, wanted: &str) -> bool {
+pub fn is_text(text: String, wanted: &str) -> bool
+    ensures { (result ≡ true) ↔ (string_bytes text ≡ wanted.now) }
+{
     text.as_str() == wanted
 }

@@ -1,0 +1,3 @@
+pub mod Endings
+pub mod Results
+pub use Rattle.rls_value
