@@ -59,12 +59,13 @@ PARTS = {
     "run_statement": """Delta::from_slice Delta::with_capacity Reads::copy Reads::with_capacity SelectedTable::copy note_effective_roles
         noted_effective_roles noted_grants noted_key noted_policies noted_scan noted_table put_all_names put_names put_names_if
         put_selected put_shared_names put_step require_grantees table_named with_policy with_replaced without_policy""",
+    "Core::admit": "Core::admit_or_end",
     "Core::post": "Decisions::new Posted::new",
     "Core::order": "Conflicts::order",
     "run": "Begin::copy Core::happen",
     "Session::execute": "Session::execute_at ask_of request_for",
     "line_of_record": "Decisions::copy_all",
-    "Audit::check": "Committing::ends_in Committing::new Committing::put",
+    "Audit::check": "Audit::check_telling Committing::ends_in Committing::new Committing::put",
     "Audit::explain": "explain_row",
     "Turn::shown": "outcomes push_escaped_line row_id_json row_values_json",
 }
@@ -72,10 +73,10 @@ PARTS = {
 # Calls that only runs of the program make, and their parts: they read a script or the command line, or write answers or what is told
 # of them; and those of rls_lint, for whose paths crates.txt has no room.
 WHOLE = {
-    "run_script": "read_script run_script_telling write_answer",
-    "run_threads": "Notes::join Plan::into_parts read_plan run_threads_telling",
+    "run_script": "read_script run_script_keeping run_script_telling write_answer",
+    "run_threads": "Notes::join Plan::into_parts read_plan run_threads_keeping run_threads_telling",
     "request_of": "", "write_report": "", "findings": "Finding::line Named::follow Named::opening have_same_contents rebuilding_script",
-    "Audit::graph": "", "Audit::list": "", "Audit::page": "Page::foot Page::head Page::turn Page::walk",
+    "write_attempt": "line_of_attempt read_attempt", "Audit::graph": "", "Audit::list": "", "Audit::page": "Page::foot Page::head Page::turn Page::walk",
     "Audit::placed": "", "Listing::next": "", "Why::long_lines": "", "write_numbered": "wheres_of",
 }
 

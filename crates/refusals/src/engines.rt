@@ -139,8 +139,9 @@ fn is_committed<N: Named, R: Wait>(rt: &R, txn: Txn<'_, N>, number: u64, posts: 
             txn.rollback(rt);
             false
         }
-        Err(CommitFault::Over(refusal)) => {
+        Err(CommitFault::Over(refusal, ended)) => {
             drop(refusal);
+            drop(ended);
             false
         }
     }
@@ -417,8 +418,9 @@ fn told_commit<N: Named, R: Wait + Print>(rt: &R, txn: Txn<'_, N>) -> Ending {
     match tried_commit(rt, txn) {
         Ok(receipt) => made(is_receipt(receipt, 4, 1)),
         Err(CommitFault::NoMemory(txn)) => told_commit_again(rt, txn),
-        Err(CommitFault::Over(refusal)) => {
+        Err(CommitFault::Over(refusal, ended)) => {
             drop(refusal);
+            drop(ended);
             Ending::OtherCause
         }
     }
@@ -431,8 +433,9 @@ fn told_commit_again<N: Named, R: Wait + Print>(rt: &R, txn: Txn<'_, N>) -> Endi
             txn.rollback(rt);
             Ending::RefusedAgain
         }
-        Err(CommitFault::Over(refusal)) => {
+        Err(CommitFault::Over(refusal, ended)) => {
             drop(refusal);
+            drop(ended);
             Ending::OtherCause
         }
     }

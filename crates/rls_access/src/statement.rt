@@ -21,7 +21,7 @@ use rls_value::{Name, Refusal, Tag, TxnState};
 use std::alloc::{AllocError, Global};
 
 /// Most statements read no more objects, so that their list needn't grow.
-const USUAL_READS: usize = 32;
+const USUAL_READS: usize = 24;
 
 /// Runs the statement over the source: what it comes to, with its changes, which the source doesn't get; what it read;
 /// and the role afterwards. All that it depends on is in the footprint, and a source that is borrowed has made just these

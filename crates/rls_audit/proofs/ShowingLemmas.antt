@@ -277,7 +277,7 @@ changes_printed (x ∷ xs) [] h = absurd h
 changes_printed (x ∷ xs) (change ∷ changes) h = ap (λ (one : Changed). one ∷ xs) h.0.printed ∙ ap (λ (rest : List Changed). printed_change change ∷ rest) (changes_printed xs changes h.1)
 
 -- and of all statements
-answers_printed : (xs : List Answered) (posts : List Posted) → AllZip ShowsPost xs posts → xs ≡ printed_answers (map statement_of posts) (map effect_of posts)
+pub answers_printed : (xs : List Answered) (posts : List Posted) → AllZip ShowsPost xs posts → xs ≡ printed_answers (map statement_of posts) (map effect_of posts)
 answers_printed [] [] h = refl
 answers_printed [] (post ∷ posts) h = absurd h
 answers_printed (x ∷ xs) [] h = absurd h

@@ -10,6 +10,11 @@ use Rattle.rls_printing.specs.Outputs.{output_tokens_text}
 use Rattle.rls_printing.specs.StatementForms as form
 use Rattle.rls_core.specs.rls_guard.specs.declared.effect.Effect.{Effect}
 use Rattle.rls_core.specs.Records.{Record}
+use Rattle.rls_core.specs.declared.attempt.Attempt.{Attempt}
+use Rattle.rls_core.specs.Posts.{statement_of, effect_of}
+use Rattle.rls_audit_lines.specs.declared.attempts.AttemptEnd.{AttemptEnd}
+use Rattle.rls_audit_lines.specs.declared.attempts.AttemptLine.{AttemptLine}
+use Rattle.rls_audit_lines.specs.declared.attempts.AttemptLine.TheVariants as attempt_line
 use Rattle.rls_audit_lines.specs.declared.contents.TableShape.{TableShape}
 use Rattle.rls_audit_lines.specs.declared.changes.Changed.{Changed}
 use Rattle.rls_audit_lines.specs.declared.changes.Changed.TheVariants as changed
@@ -66,6 +71,12 @@ line_of commit it statements changes = Txn (record { changes = changes; commit =
 -- that of the record: of its changes those of each statement in the order of objects, statement by statement
 abbrev pub printed_line : ℕ → Record → Line
 printed_line commit it = line_of commit it (printed_answers it.statements it.effects) (map printed_change (flat_map ordered_changes it.effects))
+
+-- ---- attempts
+
+-- the line of an attempt that ended so
+abbrev pub printed_attempt : AttemptEnd → Attempt → AttemptLine
+printed_attempt end it = attempt_line.Attempt end (record { login = it.begin.login; mode = it.begin.mode; role = it.begin.role; snap = it.snap; statements = printed_answers (map statement_of it.posts) (map effect_of it.posts); txn = it.txn })
 
 -- ---- the audit
 

@@ -6,7 +6,7 @@ ghost use Rattle.rls_core.specs.Posts.{effect_of};
 ghost use Rattle.rls_core.specs.rls_guard.specs.Effects.{reply_of};
 ghost use Rattle.rls_audit.specs.Lines as spec;
 ghost use Rattle.rls_audit.specs.Lines.{grant_shape, in_object_order, ordered_changes};
-ghost use Rattle.rls_audit.specs.Printed.{line_of, printed_line, printed_text};
+ghost use Rattle.rls_audit.specs.Printed.{line_of, printed_attempt, printed_line, printed_text};
 ghost use Rattle.rls_audit.specs.Showing.{IsSpellable, AreTexts, HasKey, CanTell, CanShow};
 ghost use Rattle.rls_audit_lines.specs.Unshown.{Gives};
 ghost use Rattle.rls_audit.specs.Shows.{NamesColumn, ShowsTable, ShowsLine};
@@ -15,11 +15,14 @@ ghost use Rattle.rls_audit_lines.specs.rls_text.specs.{ParseResults.IsSpelled, W
 
 use crate::copying::copies;
 use crate::ordering::{are_in_order, in_order};
-use rls_audit_lines::{Answered, Audited, Changed, GrantShape, Line, Shown, TableShape, Unshown};
+use rls_audit_lines::{
+    Answered, AttemptEnd, AttemptLine, AttemptShown, Audited, Changed, GrantShape, Line, Shown,
+    TableShape, Unshown,
+};
 use rls_core::rls_guard::rls_catalog::shared_map::Share;
 use rls_core::rls_guard::rls_catalog::{Change, Grant, Grants, Keyed, Policies};
 use rls_core::rls_guard::{Effect, Reply};
-use rls_core::{Posted, Record};
+use rls_core::{Attempt, Posted, Record};
 use rls_expr::{Column, Policy, TableDef};
 use rls_printing::{print, print_policy};
 use rls_statement::Statement;
@@ -36,6 +39,47 @@ pub fn line_of_record(alloc: Global, commit: u64, record: &Record) -> Result<Lin
         Ok((statements, changes)) => Ok(line_with(alloc, commit, record, statements, changes)?),
         Err(why) => Err(why),
     }
+}
+
+/// The line of an attempt that ended so, its statements as they are printed.
+pub fn line_of_attempt(
+    alloc: Global,
+    end: AttemptEnd,
+    attempt: &Attempt,
+) -> Result<AttemptLine, Unshown>
+    ensures { Gives result (All CanShow (map effect_of attempt.now.posts)) (λ line. line ≡ printed_attempt end attempt.now) }
+{
+    match answered(alloc, attempt.posts.as_slice()) {
+        Ok(statements) => Ok(attempt_with(end, attempt, statements)?),
+        Err(why) => {
+            drop(end);
+            Err(why)
+        }
+    }
+}
+
+/// With these statements.
+#[tactic(auto, using(crate::proofs::ShowingLemmas::answers_printed))]
+fn attempt_with(
+    end: AttemptEnd,
+    attempt: &Attempt,
+    statements: Items<Answered>,
+) -> Result<AttemptLine, AllocError>
+    requires { AllZip ShowsPost statements attempt.now.posts }
+    ensures { IfOk result (λ line. line ≡ printed_attempt end attempt.now) }
+{
+    let begin = attempt.begin.get();
+    let login = begin.login.copy()?;
+    let role = begin.role.copy()?;
+    let shown = AttemptShown {
+        login,
+        mode: begin.mode,
+        role,
+        snap: attempt.snap,
+        statements,
+        txn: attempt.txn,
+    };
+    Ok(AttemptLine::Attempt(end, shown))
 }
 
 /// With these statements and changes.

@@ -13,4 +13,6 @@ pub mod ChangeCodecs
 pub mod LineCodecs
 pub mod Asked
 pub mod Reading
+pub mod AttemptCodecs
+pub mod AttemptReading
 pub use Rattle.rls_text

@@ -64,8 +64,8 @@ abbrev pub MeansLine : Bool → List ℕ → Line → Type 0
 MeansLine second text it = (line_found second text ≡ Some it) × TextsParse it
 
 -- the line with this number is read as what it means, or it is bad just where it means nothing, unless memory ran out
-abbrev pub IsLineRead : ℕ → Result Line Refusal → (Line → Type 0) → Type 0
-IsLineRead number (Ok it) Means = Means it
-IsLineRead number (Err r.NoMemory) Means = Unit {0}
-IsLineRead number (Err (r.BadAudit n)) Means = (n ≡ number) × ((it : Line) → Means it → ⊥)
-IsLineRead number (Err _) Means = ⊥
+abbrev pub IsLineRead : {A : Type 0} → ℕ → Result A Refusal → (A → Type 0) → Type 0
+IsLineRead {A} number (Ok it) Means = Means it
+IsLineRead {A} number (Err r.NoMemory) Means = Unit {0}
+IsLineRead {A} number (Err (r.BadAudit n)) Means = (n ≡ number) × ((it : A) → Means it → ⊥)
+IsLineRead {A} number (Err _) Means = ⊥

@@ -2,6 +2,7 @@
 #![tactic(auto)]
 
 mod answers;
+mod attempts;
 mod changes;
 mod contents;
 mod format;
@@ -14,6 +15,9 @@ mod unshown;
 mod values;
 mod words;
 
+pub use attempts::{
+    AttemptEnd, AttemptLine, AttemptShown, EndWord, SerialWord, read_attempt, write_attempt,
+};
 pub use changes::Changed;
 pub use contents::{GrantShape, TableShape};
 pub use format::{Audit, First, Format, Second};

@@ -57,7 +57,7 @@ fn texts_parse(alloc: Global, line: &Line) -> Result<bool, AllocError>
     }
 }
 
-fn statements_parse(alloc: Global, statements: &[Answered]) -> Result<bool, AllocError>
+pub(crate) fn statements_parse(alloc: Global, statements: &[Answered]) -> Result<bool, AllocError>
     ensures { IfOk result (λ all. TellsWhether all (All HasStatement statements.now)) }
 {
     for answered in statements {

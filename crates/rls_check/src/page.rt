@@ -18,6 +18,7 @@ use crate::page_head::{push_begin, push_facts, push_filters, push_finding, push_
 use crate::page_look::{Look, common_look};
 use crate::page_statements::{Sections, push_closing};
 use crate::plot::push_plot;
+use crate::progress::Progress;
 use crate::stored::Stored;
 use crate::survey::{Survey, survey_along};
 use crate::tallies::{Tally, is_in_report};
@@ -52,19 +53,20 @@ pub struct Page<'a> {
 
 impl Audit {
     /// A report of the audit, of which nothing is written yet: all statements were run once, alone along the order, and counted.
-    /// None where the order isn't one.
+    /// None where the order isn't one. Meanwhile it tells how many transactions were counted.
     #[tactic(auto, using(crate::proofs::GraphEdgeLemmas::all_there, crate::proofs::PageLemmas::page_some, crate::proofs::PageLemmas::page_none))]
-    pub fn page<'a>(
+    pub fn page<'a, P: Progress>(
         &'a self,
         alloc: Global,
         asked: PageAsked<'a>,
+        progress: &mut P,
     ) -> Result<Option<Page<'a>>, AllocError>
         ensures { IfOk result (spec.IsPage asked.entry.name.now asked.entry.wanted.now asked.entry.most self.now.transactions self.now.order) }
     {
         let transactions = self.transactions.as_slice();
         match places_of(alloc, transactions, self.order.as_slice())? {
             Some(places) => {
-                let page = page_along(alloc, asked, transactions, places);
+                let page = page_along(alloc, asked, transactions, places, progress);
                 Ok(Some(page?))
             }
             None => Ok(None),
@@ -73,17 +75,24 @@ impl Audit {
 }
 
 /// The same along these places.
-fn page_along<'a>(
+fn page_along<'a, P: Progress>(
     alloc: Global,
     asked: PageAsked<'a>,
     transactions: &'a [Stored],
     places: Vec<usize>,
+    progress: &mut P,
 ) -> Result<Page<'a>, AllocError>
     requires within { All (λ place. place < length transactions.now) places.items }
     requires began { EachBegan transactions.now }
     ensures { IfOk result (spec.IsBlank asked.entry.name.now asked.entry.wanted.now asked.entry.most transactions.now places.items) }
 {
-    match survey_along(alloc, asked.wanted, transactions, places.as_slice()) {
+    match survey_along(
+        alloc,
+        asked.wanted,
+        transactions,
+        places.as_slice(),
+        progress,
+    ) {
         Ok(survey) => Ok(Page {
             name: asked.name,
             wanted: asked.wanted,

@@ -14,6 +14,7 @@ use crate::alone::Alone;
 use crate::finding::Finding;
 use crate::matching::{are_puts, is_answer};
 use crate::ordering::transaction_at;
+use crate::progress::Progress;
 use crate::stored::Stored;
 use crate::transaction::{Answer, Transaction};
 use rls_agreement::Committing;
@@ -37,18 +38,22 @@ pub(crate) enum RanAlong {
 
 /// Runs the transactions alone in this order. What each changes is put on in the order of commits.
 #[tactic(auto, using(crate::proofs::RunningLemmas::runs_at_first))]
-pub(crate) fn run_along(
+pub(crate) fn run_along<P: Progress>(
     alloc: Global,
     transactions: &[Stored],
     places: &[usize],
     committing: &mut Committing,
+    progress: &mut P,
 ) -> Result<RanAlong, AllocError>
     requires in_turn { StandInTurn (history_of transactions.now) none_placed places.now }
     requires none_has_run { IsCommitting (no_changes (length transactions.now)) none_placed committing.old }
     ensures { IfOk result (λ ran. HasRunAlong transactions.now places.now ran committing.new) }
 {
     let mut state = State::opening(alloc)?;
+    let mut ran: usize = 0;
     for place in places {
+        progress.done(ran);
+        ran = ran.saturating_add(1);
         let transaction = transaction_at(transactions, *place).read(alloc)?;
         match run_alone(alloc, &state, &transaction)? {
             RanAlone::Agrees(after, changes) => {

@@ -15,6 +15,7 @@ use crate::filtering::ShownFilter;
 use crate::finding::Finding;
 use crate::graph::{conflicts_along, snaps_of};
 use crate::plot::tally_at;
+use crate::progress::Progress;
 use crate::stored::Stored;
 use crate::tallies::{Tally, count_turn, no_tallies};
 use crate::walking::{Walk, walk_from};
@@ -34,29 +35,31 @@ pub(crate) struct Survey {
 }
 
 /// Of the transactions along the places.
-pub(crate) fn survey_along(
+pub(crate) fn survey_along<P: Progress>(
     alloc: Global,
     wanted: &ShownFilter,
     transactions: &[Stored],
     places: &[usize],
+    progress: &mut P,
 ) -> Result<Survey, AllocError>
     requires within { All (λ place. place < length transactions.now) places.now }
     requires began { EachBegan transactions.now }
     ensures { IfOk result (IsSurvey wanted.now transactions.now places.now) }
 {
     let mut works = no_works(alloc, transactions.len())?;
-    let surveyed = survey_noted(alloc, wanted, transactions, places, &mut works);
+    let surveyed = survey_noted(alloc, wanted, transactions, places, &mut works, progress);
     drop(works);
     surveyed
 }
 
 /// The same, which notes what each transaction reads and changes, where nothing is noted yet.
-fn survey_noted(
+fn survey_noted<P: Progress>(
     alloc: Global,
     wanted: &ShownFilter,
     transactions: &[Stored],
     places: &[usize],
     works: &mut Vec<Work>,
+    progress: &mut P,
 ) -> Result<Survey, AllocError>
     requires within { All (λ place. place < length transactions.now) places.now }
     requires began { EachBegan transactions.now }
@@ -64,17 +67,26 @@ fn survey_noted(
     ensures { IfOk result (IsSurvey wanted.now transactions.now places.now) }
 {
     let tallies = no_tallies(alloc, transactions.len())?;
-    survey_with(alloc, wanted, transactions, places, works, tallies)
+    survey_with(
+        alloc,
+        wanted,
+        transactions,
+        places,
+        works,
+        tallies,
+        progress,
+    )
 }
 
 /// The same, where nothing is counted yet.
-fn survey_with(
+fn survey_with<P: Progress>(
     alloc: Global,
     wanted: &ShownFilter,
     transactions: &[Stored],
     places: &[usize],
     works: &mut Vec<Work>,
     nothing: Vec<Tally>,
+    progress: &mut P,
 ) -> Result<Survey, AllocError>
     requires within { All (λ place. place < length transactions.now) places.now }
     requires began { EachBegan transactions.now }
@@ -83,7 +95,15 @@ fn survey_with(
     ensures { IfOk result (IsSurvey wanted.now transactions.now places.now) }
 {
     let mut tallies = nothing;
-    let differs = run_all(alloc, wanted, transactions, places, works, &mut tallies)?;
+    let differs = run_all(
+        alloc,
+        wanted,
+        transactions,
+        places,
+        works,
+        &mut tallies,
+        progress,
+    )?;
     let noted = works.as_slice();
     let counted = tallies.as_slice();
     let conflicts = shown_conflicts(alloc, transactions, places, noted, counted)?;
@@ -96,13 +116,14 @@ fn survey_with(
 
 /// Runs all statements.
 #[tactic(auto, using(crate::proofs::GraphWorkLemmas::differs_of_same))]
-fn run_all(
+fn run_all<P: Progress>(
     alloc: Global,
     wanted: &ShownFilter,
     transactions: &[Stored],
     places: &[usize],
     works: &mut Vec<Work>,
     tallies: &mut Vec<Tally>,
+    progress: &mut P,
 ) -> Result<Option<Finding>, AllocError>
     ensures works { OnOk result (works.new.items ≡ noted_all works.old.items (standings_along transactions.now opening places.now)) }
     ensures tallies { OnOk result (tallies.new.items ≡ tallied_all wanted.now tallies.old.items (standings_along transactions.now opening places.now)) }
@@ -110,19 +131,20 @@ fn run_all(
 {
     let places = places.to_vec(alloc)?;
     let mut walk = walk_from(alloc, transactions, places)?;
-    let found = count_all(alloc, wanted, &mut walk, works, tallies);
+    let found = count_all(alloc, wanted, &mut walk, works, tallies, progress);
     drop(walk);
     found
 }
 
 /// Counts the statements that are still to come, and notes what they read and change.
 #[tactic(auto, using(crate::proofs::GraphWorkLemmas::noted_end, crate::proofs::SurveyLemmas::tallied_end, crate::proofs::GraphWorkLemmas::found_all, crate::proofs::GraphWorkLemmas::fewer_left))]
-fn count_all<'a>(
+fn count_all<'a, P: Progress>(
     alloc: Global,
     wanted: &ShownFilter,
     walk: &mut Walk<'a>,
     works: &mut Vec<Work>,
     tallies: &mut Vec<Tally>,
+    progress: &mut P,
 ) -> Result<Option<Finding>, AllocError>
     ensures works { OnOk result (works.new.items ≡ noted_all works.old.items (left walk.old)) }
     ensures tallies { OnOk result (tallies.new.items ≡ tallied_all wanted.now tallies.old.items (left walk.old)) }
@@ -130,6 +152,7 @@ fn count_all<'a>(
 {
     let mut found = None;
     while let Some(turn) = walk.next(alloc)? {
+        progress.done(walk.done());
         found = first_of(found, &turn);
         count_turn(alloc, wanted, tallies, &turn)?;
         note(alloc, works, turn)?;

@@ -137,6 +137,11 @@ impl<'a> Walk<'a> {
         }
     }
 
+    /// So many transactions are at their end.
+    pub fn done(&self) -> usize {
+        self.begun.saturating_sub(1)
+    }
+
     /// The state behind the last statement that was given.
     pub fn state(&self) -> &State
         ensures { result.now ≡ state_left self.now }

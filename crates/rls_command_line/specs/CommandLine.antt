@@ -39,6 +39,10 @@ threads_flag = record (new_rule (codes "threads")) { long = Some (codes "threads
 abbrev pub audit_option : Rule
 audit_option = record (new_rule (codes "audit")) { long = Some (codes "audit"); value_names = 1 }
 
+-- --attempts OUT
+abbrev pub attempts_option : Rule
+attempts_option = record (new_rule (codes "attempts")) { long = Some (codes "attempts"); value_names = 1 }
+
 -- --terse-conflicts
 abbrev pub terse_flag : Rule
 terse_flag = record (new_rule (codes "terse-conflicts")) { long = Some (codes "terse-conflicts"); action = Some SetTrue }
@@ -81,7 +85,7 @@ long_flag = record (new_rule (codes "long")) { long = Some (codes "long"); actio
 
 -- the name, and its words
 abbrev pub run_line : App
-run_line = with_rule (with_rule (with_rule (with_rule (with_rule (with_rule (with_rule (new_app (codes "run")) (needed (codes "FILE"))) threads_flag) audit_option) terse_flag) hints_flag) stop_flag) numbers_flag
+run_line = with_rule (with_rule (with_rule (with_rule (with_rule (with_rule (with_rule (with_rule (new_app (codes "run")) (needed (codes "FILE"))) threads_flag) audit_option) terse_flag) hints_flag) stop_flag) numbers_flag) attempts_option
 
 abbrev pub test_line : App
 test_line = with_rule (with_rule (new_app (codes "test")) transcripts_argument) write_flag
@@ -276,9 +280,10 @@ pub record IsReport (rows : List Row) (it : Reported) : Type 0 where
 
 -- the command of that name, with these words, asks for it
 abbrev pub AsksFor : Text → List Row → Request → Type 0
-AsksFor name rows (q.Run it) = (name ≡ codes "run") × IsRun rows it × IsFlag (codes "stop") rows false × IsFlag (codes "numbers") rows false
-AsksFor name rows (q.RunStopping it) = (name ≡ codes "run") × IsRun rows it × IsFlag (codes "stop") rows true × IsFlag (codes "numbers") rows false
-AsksFor name rows (q.RunNumbered it) = (name ≡ codes "run") × IsRun rows it × IsFlag (codes "stop") rows false × IsFlag (codes "numbers") rows true
+AsksFor name rows (q.Run it) = (name ≡ codes "run") × IsRun rows it × IsFlag (codes "stop") rows false × IsFlag (codes "numbers") rows false × (first_of (codes "attempts") rows ≡ None)
+AsksFor name rows (q.RunStopping it) = (name ≡ codes "run") × IsRun rows it × IsFlag (codes "stop") rows true × IsFlag (codes "numbers") rows false × (first_of (codes "attempts") rows ≡ None)
+AsksFor name rows (q.RunNumbered it) = (name ≡ codes "run") × IsRun rows it × IsFlag (codes "stop") rows false × IsFlag (codes "numbers") rows true × (first_of (codes "attempts") rows ≡ None)
+AsksFor name rows (q.RunKeeping it out) = (name ≡ codes "run") × IsRun rows it × IsFlag (codes "stop") rows false × IsFlag (codes "numbers") rows false × (first_of (codes "attempts") rows ≡ Some out.now)
 AsksFor name rows (q.Test it) = (name ≡ codes "test") × IsTest rows it
 AsksFor name rows (q.Order audit) = (name ≡ codes "order") × (first_of (codes "AUDIT") rows ≡ Some audit.now) × IsFlag (codes "long") rows false
 AsksFor name rows (q.OrderLong audit) = (name ≡ codes "order") × (first_of (codes "AUDIT") rows ≡ Some audit.now) × IsFlag (codes "long") rows true

@@ -4,7 +4,7 @@ ghost use Rattle.std.specs.Prelude.{◌≡◌, false, map, codes, Some, option_m
 ghost use Rattle.clap.specs.Words.{app_of, first_of, found_of, new_app, new_rule, rows_of, rule_of};
 ghost use Rattle.clap.specs.declared.builder.command.Command.TheViews.{out-Command};
 ghost use Rattle.rls_command_line.specs.declared.command_line.Mistake.TheVariants.{Words};
-ghost use Rattle.rls_command_line.specs.CommandLine.{Asks, AsksFor, IsFlag, IsMistaken, IsNumber, IsOfMemory, IsOwn, IsRow, audit_option, audits_argument, check_line, command_line, explain_line, long_flag, migrate_line, needed, numbers_flag, hints_flag, order_line, parse_line, program_line, quiet_flag, run_line, stop_flag, terse_flag, test_line, threads_flag, transcripts_argument, write_flag};
+ghost use Rattle.rls_command_line.specs.CommandLine.{Asks, AsksFor, IsFlag, IsMistaken, IsNumber, IsOfMemory, IsOwn, IsRow, IsRun, attempts_option, audit_option, audits_argument, check_line, command_line, explain_line, long_flag, migrate_line, needed, numbers_flag, hints_flag, order_line, parse_line, program_line, quiet_flag, run_line, stop_flag, terse_flag, test_line, threads_flag, transcripts_argument, write_flag};
 
 use crate::dump_line::{dump_command, dump_of};
 use crate::graph_line::{graph_command, graph_of};
@@ -52,6 +52,8 @@ With --threads each label runs its lines on its own thread up to the next line `
 With --numbers each line of an answer stands behind a mark and a tab: the number of the line in FILE, and where it was answered:
 `-` in no transaction, `T` transaction T began, `T.S` in statement S of T, `rows T.N` it inserted these rows, `commit C` T is commit
 C, `T over` T ended without a commit. The answers are written once the run has ended.
+With --attempts each transaction that ends without a commit has a line in OUT, with what its statements were answered and how it
+ended. It goes with --threads and --audit, and not with --stop or --numbers.
 
 Example: rlsdb run FILE --threads --audit AUDIT";
 
@@ -104,6 +106,8 @@ pub const NUMBER: &str = "a decimal number up to 18446744073709551615";
 const TWICE: &str = "a file that can be read twice";
 
 const FILLED: &str = "with --write, a file";
+
+const KEPT: &str = "a file";
 
 pub const ROW: &str = "T.N with decimal numbers up to 18446744073709551615 and 4294967295";
 
@@ -187,6 +191,9 @@ fn run_of<'a>(words: &ArgMatches<'a>) -> Result<Request<'a>, Mistake<'a>>
         terse: flag(words, "terse-conflicts"),
         hints: flag(words, "hints"),
     };
+    if let Some(out) = given(words, "attempts") {
+        return run_keeping_of(words, run, out);
+    }
     match (flag(words, "stop"), flag(words, "numbers")) {
         (false, false) => Ok(Request::Run(run)),
         (true, _) if run.threads => Err(Mistake::Together("--stop", "--threads")),
@@ -194,6 +201,27 @@ fn run_of<'a>(words: &ArgMatches<'a>) -> Result<Request<'a>, Mistake<'a>>
         (false, true) if run.threads => Err(Mistake::Together("--numbers", "--threads")),
         (false, true) => Ok(Request::RunNumbered(run)),
         (true, true) => Err(Mistake::Together("--numbers", "--stop")),
+    }
+}
+
+/// The same, where transactions that end without a commit are kept in the file.
+fn run_keeping_of<'a>(
+    words: &ArgMatches<'a>,
+    run: ScriptFile<'a>,
+    out: &'a str,
+) -> Result<Request<'a>, Mistake<'a>>
+    requires run { IsRun (rows_of (found_of words.now)) run }
+    requires out { first_of (codes "attempts") (rows_of (found_of words.now)) ≡ Some out.now }
+    ensures ok { IfOk result (AsksFor (codes "run") (rows_of (found_of words.now))) }
+    ensures err { IfErr result IsOwn }
+{
+    if out == "-" {
+        return Err(Mistake::Value("--attempts <OUT>", "-", KEPT));
+    }
+    match (flag(words, "stop"), flag(words, "numbers")) {
+        (false, false) => Ok(Request::RunKeeping(run, out)),
+        (true, _) => Err(Mistake::Together("--attempts", "--stop")),
+        (false, true) => Err(Mistake::Together("--attempts", "--numbers")),
     }
 }
 
@@ -376,6 +404,7 @@ fn run_command<'a>(alloc: Global) -> Result<Command<'a>, AllocError>
     let command = command.arg(hints(alloc))?;
     let command = command.arg(stop(alloc))?;
     let command = command.arg(numbers(alloc))?;
+    let command = command.arg(attempts_out(alloc))?;
     Ok(command)
 }
 
@@ -389,6 +418,16 @@ fn numbers<'a>(alloc: Global) -> Arg<'a>
         .help(
             "Put the line, the transaction, the statement, the rows and the commit before each answer",
         )
+}
+
+fn attempts_out<'a>(alloc: Global) -> Arg<'a>
+    ensures rule { rule_of result ≡ attempts_option }
+    ensures local { result.global ≡ false }
+{
+    Arg::new(alloc, "attempts")
+        .long("attempts")
+        .value_name("OUT")
+        .help("Write what ended without a commit to the file OUT")
 }
 
 fn stop<'a>(alloc: Global) -> Arg<'a>

@@ -133,6 +133,8 @@ pub enum Request<'a> {
     RunStopping(ScriptFile<'a>),
     /// Each answer behind the transaction that its line was answered in.
     RunNumbered(ScriptFile<'a>),
+    /// With the transactions that end without a commit in this file.
+    RunKeeping(ScriptFile<'a>, &'a str),
     Test(Tests<'a>),
     Order(&'a str),
     /// The same, with who committed what.

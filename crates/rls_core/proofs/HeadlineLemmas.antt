@@ -35,7 +35,7 @@ use Rattle.rls_core.specs.Records.{Record, record_at, history_by, state_after}
 use Rattle.rls_core.specs.Alone.{effects_alone, state_alone, changes_made, Explains, FindSnapshots}
 use Rattle.rls_core.specs.Events.{Event, Running, Rules, after}
 use Rattle.rls_core.specs.Headline as headline
-use Rattle.rls_core.specs.Headline.{CanBeOrdered, WriteApart, HaveOrder, AreExplained, KeysStayUnique, NumbersNeverMeet, NumbersDiffer, AreRecorded}
+use Rattle.rls_core.specs.Headline.{CanBeOrdered, WriteApart, HaveOrder, AreExplained, KeysStayUnique, NumbersNeverMeet, NumbersDiffer, AreRecorded, RunAsRecorded}
 use Rattle.rls_core.specs.Theory.{statements, conditions, setup_of, entry_of, running_of, event_of, world_of}
 use Rattle.rls_core.proofs.StatementLemmas.{StatementLaws, put_all_is, sound_in_order, changed_in_order, agrees_on}
 use Rattle.rls_core.proofs.RuleLemmas.{any_some}
@@ -212,6 +212,24 @@ module _ (told : HistoriesAreTold) (rules : Rules) (list : List Event) where
           it.changes ∙ changes_are entry.start entry.statements (theory.state_at statements opening entries entry.snap) ∙ ap changes_made (sym it.replies) in
           subst (λ (e : Entry statements). e.changes ≡ changes_made e.replies) (entry_at_is (after rules list).committed i) own;
     }
+
+    -- one that runs
+    module _ (means : StatementMeans) (txn : ℕ) (it : Running) (is : (after rules list).running txn ≡ Some it) where
+      run_is : kept.IsRunning conditions (setup_of rules) entries (after rules list).next txn (record { entry = entry_of it.so_far; now = it.ctx })
+      run_is = holds.running txn (record { entry = entry_of it.so_far; now = it.ctx }) (ap running_of is)
+
+      pub run_began : it.so_far.snap ≤ length (after rules list).committed
+      run_began = subst (λ many. it.so_far.snap ≤ many) long run_is.began
+
+      pub run_effects : effects_alone (first_ctx it.so_far.txn it.so_far.begin) it.so_far.statements (state_after (after rules list).committed it.so_far.snap) ≡ it.so_far.effects
+      run_effects =
+          let ctx : Ctx = first_ctx it.so_far.txn it.so_far.begin in
+          let own : it.so_far.effects ≡ replies_alone statements ctx it.so_far.statements (state_after (after rules list).committed it.so_far.snap) =
+          subst (λ u. it.so_far.effects ≡ replies_alone statements ctx it.so_far.statements u) (state_is (after rules list).committed it.so_far.snap) run_is.recorded.replies in
+          sym (own ∙ effects_are means ctx it.so_far.statements (state_after (after rules list).committed it.so_far.snap))
+
+    pub run_recorded : StatementMeans → RunAsRecorded (after rules list)
+    run_recorded means = record { began = run_began means; effects = run_effects means }
 
   pub can_be_ordered : kept.CanBeOrdered (setup_of rules) (events.after (setup_of rules) 1 (map event_of list)) → CanBeOrdered (after rules list)
   can_be_ordered can =

@@ -5,6 +5,7 @@ mod HeadlineLemmas
 mod AdmittedLemmas
 mod PostLemmas
 pub mod JoinedLemmas
+mod AttemptLemmas
 pub mod KeptLemmas
 pub mod EventLemmas
 pub mod TakenLemmas

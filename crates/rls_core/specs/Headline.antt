@@ -7,13 +7,13 @@ use Rattle.rls_catalog.specs.Bases.{Base, shows}
 use Rattle.rls_catalog.specs.SoundRows.{RowsAreSound}
 use Rattle.rls_meaning.specs.rls_guard.specs.rls_source.specs.Footprints.{is_among}
 use Rattle.rls_meaning.specs.rls_dml.specs.NextRows.{AllFree}
-use Rattle.rls_meaning.specs.rls_access.specs.Transactions.{may_begin}
+use Rattle.rls_meaning.specs.rls_access.specs.Transactions.{first_ctx, may_begin}
 use Rattle.rls_history.specs.History.{concurrent}
 use Rattle.rls_history.specs.Structures.{NoStructureBelow, Finds}
 use Rattle.rls_history.specs.Orders.{IsHistory, IsOrder}
 use Rattle.rls_conflict.specs.Written.{WriteCommonObject}
 use Rattle.rls_core.specs.Records.{record_at, history_by, state_after}
-use Rattle.rls_core.specs.Alone.{Explains, FindSnapshots, changes_made}
+use Rattle.rls_core.specs.Alone.{Explains, FindSnapshots, changes_made, effects_alone}
 use Rattle.rls_core.specs.Events.{Event, Running, World, Rules, seen_by, changes_by, is_taken, happens, after}
 
 -- what the object shows, the wider one shows
@@ -72,6 +72,13 @@ pub record NumbersDiffer (world : World) : Type 0 where
 pub record AreRecorded (world : World) : Type 0 where
   pub began : (i : ℕ) → i < length world.committed → (record_at world.committed i).snap ≤ i
   pub changes : (i : ℕ) → i < length world.committed → (record_at world.committed i).changes ≡ changes_made (record_at world.committed i).effects
+
+-- One that runs began after no more commits than there are. Run alone on the state after so many, its statements come to just what is
+-- recorded of them: replies, refusals, decisions and changes.
+pub record RunAsRecorded (world : World) : Type 0 where
+  pub began : (txn : ℕ) (it : Running) → world.running txn ≡ Some it → it.so_far.snap ≤ length world.committed
+  pub effects : (txn : ℕ) (it : Running) → world.running txn ≡ Some it
+      → effects_alone (first_ctx it.so_far.txn it.so_far.begin) it.so_far.statements (state_after world.committed it.so_far.snap) ≡ it.so_far.effects
 
 -- each was admitted: at its snapshot the login had LOGIN, and the role that it began as was there
 abbrev pub AreAdmitted : World → Type 0

@@ -11,6 +11,7 @@ pub mod Seen
 pub mod Opened
 pub mod SeenCode
 pub mod Kept
+pub mod Attempts
 pub mod Calls
 pub mod Happening
 pub use Rattle.rls_conflict.specs.Begun

@@ -2,6 +2,7 @@
 #![tactic(auto)]
 
 mod answer;
+mod attempt;
 mod begin;
 mod database;
 mod decisions;
@@ -18,6 +19,7 @@ mod rules;
 mod work;
 
 pub use answer::Answer;
+pub use attempt::{Attempt, Remains};
 pub use begin::Begin;
 pub use decisions::Decisions;
 pub use event::Event;

@@ -18,6 +18,8 @@ ghost use Rattle.rls_catalog.specs.SoundRows.{RowsAreSound};
 ghost use Rattle.rls_meaning.specs.rls_dml.specs.NextRows.{InRange};
 ghost use Rattle.rls_core.specs.Events.{Running, seen_by};
 ghost use Rattle.rls_core.specs.Kept.{IsSame, SeesNewest};
+ghost use Rattle.rls_core.specs.Attempts.{LeftBy, Leaves};
+ghost use Rattle.rls_core.specs.Attempts.{remains_of as remains_by};
 ghost use Rattle.rls_core.specs.Events.Event.{Begins, Posts, Commits, RollsBack};
 ghost use Rattle.rls_core.specs.Posts.{statement_of, effect_of, record_of};
 ghost use Rattle.rls_core.specs.Opened.{opened_on, with_post, Looks};
@@ -25,6 +27,7 @@ ghost use Rattle.rls_core.specs.Seen.{nothing_yet, runs_at, world_of, newest_sta
 ghost use Rattle.rls_core.specs.Calls.{IsWork, IsReady, MayCommit, NotBegun, NotWorked, NotPosted, NotReady, NotCommitted, NotRunning, IsOrderBy, statements_at, effects_at, RunsOn, CanFollow, is_serial};
 ghost use Rattle.rls_core.specs.Headline.{HaveOrder, AreExplained, EachFindsSnapshots};
 
+use crate::attempt::Remains;
 use crate::begin::Begin;
 use crate::headline::committed_are_serial;
 use crate::keeping::{events_keep, posts_are_tested};
@@ -182,13 +185,15 @@ impl Core {
         }
     }
 
-    /// Takes the transaction away, if it runs.
-    pub(crate) fn end(&mut self, txn: u64)
+    /// Takes the transaction away, if it runs, and gives what is left of it. It takes no memory.
+    pub fn end(&mut self, txn: u64) -> Option<Remains>
         ensures happens { Happens (RollsBack txn) self.old self.new }
         ensures over { runs_at self.new txn ≡ None }
+        ensures left { Leaves txn (runs_at self.old txn) result }
     {
-        self.running.remove(&txn);
+        let opened = self.running.remove(&txn);
         self.conflicts.rollback(txn);
+        remains_of(opened)
     }
 
     /// The running transaction of that number.
@@ -241,10 +246,31 @@ impl Core {
         ensures runs { OnOk result (is_some (runs_at self.new work.txn) ≡ true) }
         ensures err { IfErr result (λ why. NotPosted work.txn work.statement self.old self.new why) }
     {
+        match self.admit_or_end(alloc, work) {
+            Ok(()) => Ok(()),
+            Err((refusal, left)) => {
+                drop(left);
+                Err(refusal)
+            }
+        }
+    }
+
+    /// The same. What is left of a transaction that ends goes with the refusal.
+    pub fn admit_or_end(
+        &mut self,
+        alloc: Global,
+        work: Work,
+    ) -> Result<(), (Refusal, Option<Remains>)>
+        requires { IsWork self.old work }
+        ensures ok { OnOk result (Happens (Posts work.txn work.statement) self.old self.new) }
+        ensures runs { OnOk result (is_some (runs_at self.new work.txn) ≡ true) }
+        ensures err { IfErr result (λ refused. NotPosted work.txn work.statement self.old self.new refused.0) }
+        ensures left { IfErr result (λ refused. LeftBy work.txn (runs_at self.old work.txn) refused.0 refused.1) }
+    {
         if self.is_running(work.txn) {
             return self.follow(alloc, work);
         }
-        Err(Refusal::TxnState(TxnState::NoneInProgress))
+        Err((Refusal::TxnState(TxnState::NoneInProgress), None))
     }
 
     /// Whether the transaction runs.
@@ -255,12 +281,13 @@ impl Core {
     }
 
     /// Puts work behind that of a transaction that runs.
-    fn follow(&mut self, alloc: Global, work: Work) -> Result<(), Refusal>
+    fn follow(&mut self, alloc: Global, work: Work) -> Result<(), (Refusal, Option<Remains>)>
         requires work { IsWork self.old work }
         requires runs { is_some (runs_at self.old work.txn) ≡ true }
         ensures ok { OnOk result (Happens (Posts work.txn work.statement) self.old self.new) }
         ensures runs { OnOk result (is_some (runs_at self.new work.txn) ≡ true) }
-        ensures err { IfErr result (λ why. NotPosted work.txn work.statement self.old self.new why) }
+        ensures err { IfErr result (λ refused. NotPosted work.txn work.statement self.old self.new refused.0) }
+        ensures left { IfErr result (λ refused. LeftBy work.txn (runs_at self.old work.txn) refused.0 refused.1) }
     {
         self.goes_on(&work);
         posts_are_tested();
@@ -271,11 +298,11 @@ impl Core {
             Err(refusal) => refusal,
         };
         if is_serial(&refusal) {
-            self.running.remove(&txn);
+            let opened = self.running.remove(&txn);
             self.conflicts.rollback(txn);
-            return Err(refusal);
+            return Err((refusal, remains_of(opened)));
         }
-        Err(Refusal::NoMemory)
+        Err((Refusal::NoMemory, None))
     }
 
     /// Posts a statement.
@@ -381,6 +408,16 @@ impl Core {
         events_keep();
         let places = self.conflicts.order(alloc)?;
         numbers_at(alloc, self.committed.as_slice(), places.as_slice())
+    }
+}
+
+/// What is left of a transaction that was taken away.
+fn remains_of(opened: Option<Open>) -> Option<Remains>
+    ensures { result ≡ option_map remains_by opened }
+{
+    match opened {
+        Some(opened) => Some(opened.into_remains()),
+        None => None,
     }
 }
 

@@ -10,8 +10,10 @@ ghost use Rattle.rls_meaning.specs.rls_access.specs.Statements.{step, effect_in,
 ghost use Rattle.rls_meaning.specs.rls_access.specs.Transactions.{first_ctx};
 ghost use Rattle.rls_conflict.specs.Known.{is_running, running_of, posted, Becomes};
 ghost use Rattle.rls_conflict.specs.Written.{IsFree, IsRefusedBy};
+ghost use Rattle.rls_core.specs.Attempts.{remains_of};
 ghost use Rattle.rls_core.specs.Opened.{Opened, opened_on, with_post};
 
+use crate::attempt::Remains;
 use crate::begin::Begin;
 use crate::posted::Posted;
 use crate::work::Work;
@@ -103,6 +105,22 @@ impl Open {
     {
         let posts = copy_posts(alloc, self.posts.as_slice())?;
         Share::new(alloc, posts)
+    }
+
+    /// What is left of it where it ends without a commit.
+    pub(crate) fn into_remains(self) -> Remains
+        ensures { result ≡ remains_of self }
+    {
+        let Open {
+            begin,
+            posts,
+            ctx: _,
+            view: _,
+        } = self;
+        Remains {
+            begin,
+            posts: Items::from_vec(posts),
+        }
     }
 
     /// What the statement comes to on its view.

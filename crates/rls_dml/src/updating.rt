@@ -5,7 +5,6 @@ ghost use Rattle.rls_value.specs.Giving.{Gives};
 ghost use Rattle.rls_evaluation.specs.Scoping.{datum_value};
 ghost use Rattle.rls_guard.specs.rls_source.specs.Answering.{Answers, Tells};
 ghost use Rattle.rls_dml.specs.Listings as listings;
-ghost use Rattle.rls_dml.specs.Checking.{has_some as spec_has_some};
 ghost use Rattle.rls_dml.specs.Writing.{checks_of, rows_or_refused, order_of as spec_order_of};
 ghost use Rattle.rls_expansion.specs.Expanding.{expansion_of, permission_checks};
 ghost use Rattle.rls_dml.specs.Updating as spec;
@@ -92,6 +91,7 @@ fn update_as<'c, 'x, S: RowSource<'c>>(
 ) -> Result<Effect, Refusal>
     ensures { Answers S.state S.after (spec.update_as role_privileges.now role.now from.entry.name.now from.entry.table.now analysed_update.now) source.old source.new read_set.old read_set.new result }
 {
+    let columns_read = columns_of_update(alloc, from.table, analysed_update)?;
     let expansion = expansion(
         alloc,
         source,
@@ -99,6 +99,7 @@ fn update_as<'c, 'x, S: RowSource<'c>>(
         role_privileges,
         from,
         analysed_update,
+        has_some(columns_read.as_slice()),
     )?;
     let updated = update_with_quals(
         alloc,
@@ -107,6 +108,7 @@ fn update_as<'c, 'x, S: RowSource<'c>>(
         role_privileges,
         &expansion,
         analysed_update,
+        columns_read,
         role,
         from,
     );
@@ -122,12 +124,10 @@ fn expansion<'c, 'x, S: RowSource<'c>>(
     role_privileges: &RolePrivileges,
     from: FromTable<'x>,
     analysed_update: &AnalysedUpdate,
+    reads: bool,
 ) -> Result<PolicyExpansion<'c>, Refusal>
-    ensures { Answers S.state S.after (expansion_of role_privileges.now from.entry.name.now from.entry.table.now Kind.Update (spec_has_some (spec.update_columns_read from.entry.table.now analysed_update.now)) (spec.analysed_update_tables analysed_update.now)) source.old source.new read_set.old read_set.new result }
+    ensures { Answers S.state S.after (expansion_of role_privileges.now from.entry.name.now from.entry.table.now Kind.Update reads (spec.analysed_update_tables analysed_update.now)) source.old source.new read_set.old read_set.new result }
 {
-    let columns = columns_of_update(alloc, from.table, analysed_update)?;
-    let reads = has_some(columns.as_slice());
-    drop(columns);
     let tables = analysed_update_tables(alloc, analysed_update)?;
     let expansion = expansion_of(
         alloc,
@@ -152,12 +152,14 @@ fn update_with_quals<'c, 'x, S: RowSource<'c>>(
     role_privileges: &RolePrivileges,
     expansion: &PolicyExpansion<'c>,
     analysed_update: &AnalysedUpdate,
+    columns_read: Items<Name>,
     role: &Name,
     from: FromTable<'x>,
 ) -> Result<Effect, Refusal>
+    requires { columns_read ≡ spec.update_columns_read from.table.now analysed_update.now }
     ensures { Answers S.state S.after (spec.update_with_quals role_privileges.now expansion.now analysed_update.now role.now from.entry.name.now from.entry.table.now) source.old source.new read_set.old read_set.new result }
 {
-    let checks = checks(alloc, from, expansion, analysed_update)?;
+    let checks = checks(alloc, from, expansion, analysed_update, columns_read)?;
     require_all(alloc, source, read_set, role_privileges, checks)?;
     let rows = scanned_rows(
         alloc,
@@ -185,11 +187,12 @@ fn checks<'c, 'x>(
     from: FromTable<'x>,
     expansion: &PolicyExpansion<'c>,
     analysed_update: &AnalysedUpdate,
+    columns_read: Items<Name>,
 ) -> Result<Items<PermissionCheck>, AllocError>
+    requires { columns_read ≡ spec.update_columns_read from.table.now analysed_update.now }
     ensures { IfOk result (λ checks. checks ≡ checks_of Privilege.Update from.entry.name.now (spec.update_columns from.entry.table.now analysed_update.now) (spec.update_columns_read from.entry.table.now analysed_update.now) (permission_checks expansion.now (spec.update_selected analysed_update.now))) }
 {
     let own = columns_set(alloc, from.table.columns.as_slice(), analysed_update)?;
-    let read = columns_of_update(alloc, from.table, analysed_update)?;
     let queries = update_selected(alloc, analysed_update)?;
     let others = expansion.permission_checks(alloc, queries.as_slice())?;
     drop(queries);
@@ -198,7 +201,7 @@ fn checks<'c, 'x>(
         Privilege::Update,
         from.name,
         own,
-        read,
+        columns_read,
         others.as_slice(),
     )
 }

@@ -24,6 +24,8 @@ use Rattle.rls_core.specs.contracts.posted.Posted as Posted_
 use Rattle.rls_core.specs.contracts.posted.Posted.TheInside as Posted_Inside
 use Rattle.rls_core.specs.rls_conflict.specs.contracts.transaction.Transaction as Transaction_
 use Rattle.rls_core.specs.rls_conflict.specs.contracts.transaction.Transaction.TheInside as Transaction_Inside
+use Rattle.rls_core.specs.contracts.attempt.Attempt as Attempt_
+use Rattle.rls_core.specs.contracts.attempt.Remains as Remains_
 use Rattle.rls_core.specs.contracts.record.Record as Record_
 use Rattle.rls_core.specs.contracts.record.Record.TheInside as Record_Inside
 use Rattle.rls_core.specs.rls_rows.specs.contracts.state.State as State_
@@ -124,6 +126,13 @@ record_inside_send = declared_send Record_Inside.the_type (search of_record_send
 
 pub record_send : IsSend Record_.the_row
 record_send = search (sendable, record_inside_send) depth 3
+
+-- what is left of a transaction
+pub remains_send : IsSend Remains_.the_row
+remains_send = declared_send Remains_.the_type (search of_record_send depth 16 fits 20000, (search of_record_send depth 16 fits 20000, tt))
+
+pub attempt_send : IsSend Attempt_.the_row
+attempt_send = declared_send Attempt_.the_type (search of_record_send depth 16 fits 20000, (search of_record_send depth 16 fits 20000, (search of_record_send depth 16 fits 20000, (search of_record_send depth 16 fits 20000, tt))))
 
 ruleset of_record_sync = (kept, Share.the_send, Share.the_sync, Begin.the_send, Begin.the_sync, Items.the_send, Items.the_sync, transaction_send, transaction_sync, posted_send, posted_sync)
 

@@ -2,7 +2,7 @@
 use denote.RattleType.{RattleType}
 use denote.Ref.{NamedLft}
 use denote.Param.Send.{IsSend, IsSync, sendable}
-use denote.Param.SendFields.{declared_send, declared_sync, variants_send, variants_sync, as_row_send, as_row_sync}
+use denote.Param.SendFields.{declared_send, declared_sync, as_row_send, as_row_sync}
 use Rattle.std.proofs.Crossing as crossing
 use Rattle.std.proofs.MapsCrossing as maps
 use Rattle.std.proofs.option.Option.TheSendSync as Option
@@ -18,7 +18,7 @@ use Rattle.rls_value.proofs.refusal.Refusal.TheSendSync as Refusal
 use Rattle.rls_core.specs.rls_guard.proofs.context.Ctx.TheSendSync as Ctx
 use Rattle.shared.proofs.share.Share.TheSendSync as Shared
 use Rattle.rls_engine.proofs.StatementsCross.{statement_send, statement_sync}
-use Rattle.rls_engine.proofs.CoreCrosses.{core_send, core_sync, record_send, record_sync, state_send, state_sync, work_send}
+use Rattle.rls_engine.proofs.CoreCrosses.{attempt_send, core_send, record_send, record_sync, remains_send, state_send, state_sync, work_send}
 use Rattle.rls_engine.specs.contracts.commit.Commit as Commit_
 use Rattle.rls_engine.specs.contracts.step.Step as Step_
 use Rattle.rls_engine.specs.contracts.step.Step.TheInside as Step_Inside
@@ -30,7 +30,10 @@ use Rattle.rls_engine.specs.contracts.desk.Desk as Desk_
 use Rattle.rls_engine.specs.contracts.desk.Desk.TheInside as Desk_Inside
 use Rattle.rls_engine.specs.contracts.engine.Engine as Engine_
 use Rattle.rls_engine.specs.contracts.engine.Engine.TheInside as Engine_Inside
+use Rattle.rls_engine.specs.contracts.posting.Over as Over_
 use Rattle.rls_engine.specs.contracts.posting.Pending as Pending_
+use Rattle.rls_engine.specs.contracts.ended.Ended as Ended_
+use Rattle.rls_engine.specs.contracts.ended.Ended.TheInside as Ended_Inside
 use Rattle.rls_engine.specs.contracts.txn.Txn as Txn_
 use Rattle.rls_engine.specs.contracts.txn.Txn.TheInside as Txn_Inside
 use Rattle.rls_engine.specs.contracts.receipt.Receipt as Receipt_
@@ -61,12 +64,22 @@ step_sync = search (sendable, step_inside_sync) depth 3
 pending_send : IsSend Pending_.the_row
 pending_send = declared_send Pending_.the_type (search (parts, Shared.the_send, statement_send, statement_sync) depth 12 fits 20000, (search (parts, work_send) depth 12 fits 20000, tt))
 
+over_send : IsSend Over_.the_row
+over_send = declared_send Over_.the_type (search (parts, Refusal.the_field_send) depth 12 fits 20000, (search (parts, remains_send) depth 12 fits 20000, tt))
+
 module _ (N : RattleType) (g : named.Ghosts N.Denot) (l : ledger.Ghosts N.Denot) (crosses : IsSend N) where
   place_inside_send : IsSend (Place_Inside.the_row N g l)
   place_inside_send = declared_send (Place_Inside.the_type N g l) (search (parts, crosses) depth 12 fits 20000, (search (parts, Placed.the_send) depth 12 fits 20000, (search (parts, crosses) depth 12 fits 20000, tt)))
 
   pub place_send : IsSend (Place_.the_row N g l)
   place_send = search (sendable, place_inside_send) depth 3
+
+  ended_inside_send : IsSend (Ended_Inside.the_row N g l)
+  ended_inside_send = declared_send (Ended_Inside.the_type N g l) (search (parts, place_send) depth 12 fits 20000, (search (parts, attempt_send) depth 12 fits 20000, tt))
+
+  -- an attempt may go to another thread, as its label's notes do
+  pub ended_send : IsSend (Ended_.the_row N g l)
+  ended_send = search (sendable, ended_inside_send) depth 3
 
   held_inside_send : IsSend (Held_Inside.the_row N g l)
   held_inside_send = declared_send (Held_Inside.the_type N g l) (search (parts, crosses) depth 12 fits 20000, (search (parts, place_send) depth 12 fits 20000, (search (parts, Placed.the_send) depth 12 fits 20000, (search (parts, state_send) depth 12 fits 20000, (search (parts, Ctx.the_field_send) depth 12 fits 20000, tt)))))
@@ -94,7 +107,7 @@ module _ (N : RattleType) (g : named.Ghosts N.Denot) (l : ledger.Ghosts N.Denot)
   engine_sync = search (sendable, engine_inside_sync) depth 3
 
   txn_inside_send : (ν : NamedLft) → IsSend (Txn_Inside.the_row ν N g l)
-  txn_inside_send ν = declared_send (Txn_Inside.the_type ν N g l) (search (parts, engine_sync) depth 12 fits 20000, (search (parts, held_send) depth 12 fits 20000, (search (parts, pending_send) depth 12 fits 20000, (search (parts, Refusal.the_field_send) depth 12 fits 20000, tt))))
+  txn_inside_send ν = declared_send (Txn_Inside.the_type ν N g l) (search (parts, engine_sync) depth 12 fits 20000, (search (parts, held_send) depth 12 fits 20000, (search (parts, pending_send) depth 12 fits 20000, (search (parts, over_send) depth 12 fits 20000, tt))))
 
   -- a transaction may go to another thread, as its session does
   pub txn_send : (ν : NamedLft) → IsSend (Txn_.the_row ν N g l)

@@ -1,12 +1,13 @@
 -- What a transaction holds behind each post, what its caller is told, and what stops its commit.
-use Rattle.std.specs.Prelude.{◌≡◌, refl, ℕ, true, false, Option, Some, None, List, [], ◌∷◌, ◌++◌, map, length, Result, Ok, Err, IfOk, IfErr, IfSome}
+use Rattle.std.specs.Prelude.{◌≡◌, ◌≢◌, refl, ℕ, true, false, Option, Some, None, List, [], ◌∷◌, ◌++◌, map, length, Result, Ok, Err, IfOk, IfErr, IfSome}
+use Rattle.std.specs.Option.{option_map}
 use Rattle.std.proofs.Common.{ap, sym, subst, ◌∙◌, inl, inr}
 use Rattle.std.proofs.lemmas.Bool.{true≢false}
 use Rattle.rls_value.specs.declared.object.Object.{Object}
 use Rattle.rls_value.specs.declared.refusal.Refusal.{Refusal}
-use Rattle.rls_value.specs.declared.refusal.Refusal.TheVariants.{Serial}
+use Rattle.rls_value.specs.declared.refusal.Refusal.TheVariants.{NoMemory, Serial, Foreign}
 use Rattle.rls_value.specs.declared.refusal.Cause.{Cause}
-use Rattle.rls_core.specs.rls_guard.specs.rls_catalog.specs.State.{State}
+use Rattle.rls_value.specs.declared.refusal.Cause.TheVariants as cause
 use Rattle.rls_core.specs.rls_guard.specs.rls_catalog.specs.Changed.{changed_all}
 use Rattle.rls_core.specs.rls_guard.specs.rls_source.specs.Footprints.{is_among}
 use Rattle.rls_statement.specs.declared.statement.Statement.{Statement}
@@ -17,10 +18,14 @@ use Rattle.rls_core.specs.Records.{Record, transaction_of}
 use Rattle.rls_core.specs.Calls.{is_serial}
 use Rattle.boxcar.specs.Table.{Shelves, Where}
 use Rattle.rls_engine.specs.declared.held.Next.{Next}
+use Rattle.rls_engine.specs.declared.posting.Over.{Over}
 use Rattle.rls_engine.specs.Stands.{Stand, posted_on, effect_on, sees, IsWorkOn}
 use Rattle.rls_engine.specs.Views.{Draft, Hold, Kept}
-use Rattle.rls_engine.specs.Steps.{HasPosted, IsBarredBy}
-use Rattle.rls_engine.specs.Drafts.{EndsPost, IsNext, IsStep, Posts, StopsCommit, WhenPosted, posting_of, told_of}
+use Rattle.rls_engine.specs.declared.txn.CommitFault.{CommitFault}
+use Rattle.rls_engine.specs.declared.txn.CommitFault.TheVariants as fault
+use Rattle.rls_engine.specs.Attempts.{IsAttemptOf}
+use Rattle.rls_engine.specs.Steps.{CommitStops, HasPosted, IsBarredBy, PostStops}
+use Rattle.rls_engine.specs.Drafts.{EndsAtPost, EndsCommit, EndsPost, IsNext, IsOverFor, IsStep, Posts, StopsCommit, WhenFailed, WhenPosted, posting_of, told_of, without_pending}
 use Rattle.rls_engine.proofs.TokenLemmas.{changed_all-append}
 
 -- the state that is seen behind a post
@@ -35,11 +40,16 @@ pub is_step : (steps : Shelves) (held : Hold) (asked asked' : Statement) (old ne
 is_step steps held asked asked' old new t posted same = record { shows = posted.shows; leads = posted.leads ∙ ap (posted_on held.stand) same }
 
 -- what the post of a statement comes to, by what its hold of the lock came to
-pub when_posted : (steps : Shelves) (held : Hold) (asked asked' : Statement) (next : Next) (made : Result (Where Stand) (Option Refusal)) → IsNext held.stand asked next → asked' ≡ asked
-    → IfOk made (IsStep steps held.stand asked') → IfErr made (λ why. IfSome why (EndsPost held asked')) → WhenPosted steps held asked (posting_of asked next made)
+pub when_posted : (steps : Shelves) (held : Hold) (asked asked' : Statement) (next : Next) (made : Result (Where Stand) (Option Over)) → IsNext held.stand asked next → asked' ≡ asked
+    → IfOk made (IsStep steps held.stand asked') → IfErr made (λ over. IfSome over (EndsAtPost held asked')) → WhenPosted steps held asked (posting_of asked next made)
 when_posted steps held asked asked' next (Ok at) comes same step ends = (comes, record { shows = step.shows; leads = step.leads ∙ ap (posted_on held.stand) same })
 when_posted steps held asked asked' next (Err None) comes same step ends = (refl, tt)
-when_posted steps held asked asked' next (Err (Some why)) comes same step ends = subst (λ (a : Statement). EndsPost held a why) same ends
+when_posted steps held asked asked' next (Err (Some over)) comes same step ends = subst (λ (a : Statement). EndsAtPost held a over) same ends
+
+-- what stops a post by a serialization failure ends the transaction
+pub ends_post : (held : Hold) (asked : Statement) (old new : Kept) (why : Cause) → PostStops held asked old new (Serial why) → EndsPost held asked (Serial why)
+ends_post held asked old new (cause.Written object other) stops = (old.seen, stops.1)
+ends_post held asked old new (cause.Structure first one pivot two last) stops = absurd stops
 
 -- what a post that is done does to its transaction
 pub posts_done : (steps : Shelves) (old new : Draft) (asked : Statement) (stand : Stand) (next : Next) (at : Where Stand) (told : Result Reply Refusal) (tag txn : ℕ) (pending : Option Statement) (over : Option Refusal)
@@ -73,3 +83,28 @@ never_barred entry why none barred =
 pub no_conflict : (stand : Stand) (why : Refusal) → stand.running.so_far.noted ≡ [] → StopsCommit stand why → is_serial why ≡ false
 no_conflict stand (Serial why) none stops = absurd (never_barred stand.running.so_far why none stops)
 no_conflict stand _ none stops = refl
+
+-- what stops the commit of what is held
+pub stops_commit : (held : Hold) (old new : Kept) (why : Refusal) → CommitStops held old new why → StopsCommit held.stand why
+stops_commit held old new NoMemory stops = tt
+stops_commit held old new Foreign stops = tt
+stops_commit held old new (Serial why) stops = stops.1
+stops_commit held old new _ stops = absurd stops
+
+-- what stops a commit and is no want of memory ends the transaction
+pub ends_commit : (stand : Stand) (why : Refusal) → why ≢ NoMemory → StopsCommit stand why → EndsCommit stand why
+ends_commit stand NoMemory other stops = absurd (other refl)
+ends_commit stand Foreign other stops = tt
+ends_commit stand (Serial why) other stops = stops
+ends_commit stand _ other stops = absurd stops
+
+-- a transaction that isn't over, without what was pending
+pub still_on : (t : Draft) (tag txn : ℕ) (stand : Stand) (pending : Option Statement) (over : Option Over) → over ≡ None → record { tag = tag; txn = txn; stand = stand; pending = pending; over = option_map (λ over. over.why) over } ≡ t
+    → record { tag = tag; txn = txn; stand = stand; pending = None; over = None } ≡ without_pending t
+still_on t tag txn stand pending over none is = ap (λ (o : Option Over). record { tag = tag; txn = txn; stand = stand; pending = None; over = option_map (λ over. over.why) o }) (sym none) ∙ ap without_pending is
+
+-- a commit that didn't happen leaves what was pending aside
+pub failed_here : {X Y : Type 0} (old other : Draft) (made : Result Y (CommitFault X)) → old ≡ without_pending other → IfErr made (WhenFailed old) → IfErr made (WhenFailed other)
+failed_here old other (Ok receipt) same failed = tt
+failed_here old other (Err (fault.NoMemory t)) same failed = failed ∙ ap without_pending same
+failed_here old other (Err (fault.Over why ended)) same failed = subst (λ (d : Draft). IsOverFor d.over d.stand why × IfSome ended (IsAttemptOf d.stand)) same failed

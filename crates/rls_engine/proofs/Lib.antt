@@ -5,3 +5,4 @@ pub mod LedLemmas
 pub mod StatementsCross
 pub mod CoreCrosses
 pub mod EngineCrosses
+mod AttemptLemmas

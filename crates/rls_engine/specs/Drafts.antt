@@ -17,9 +17,11 @@ use Rattle.rls_engine.specs.declared.txn.CommitFault.TheVariants as fault
 use Rattle.rls_engine.specs.declared.txn.PostFault.{PostFault}
 use Rattle.rls_engine.specs.declared.txn.PostFault.TheVariants as post
 use Rattle.rls_engine.specs.declared.held.Next.{Next}
+use Rattle.rls_engine.specs.declared.posting.Over.{Over}
 use Rattle.rls_engine.specs.declared.posting.Posting.{Posting}
 use Rattle.rls_engine.specs.declared.posting.Posting.TheVariants as posting
 use Rattle.boxcar.specs.Table.{Shelves, Where, Shows}
+use Rattle.rls_engine.specs.Attempts.{IsAttemptOf, IsLeftOn}
 use Rattle.rls_engine.specs.Stands.{Stand, IsWorkOf, effect_on, posted_on, sees}
 use Rattle.rls_engine.specs.Steps.{IsTakenIn, IsBarredBy}
 use Rattle.rls_engine.specs.Views.{Draft, Hold, Proof}
@@ -67,6 +69,11 @@ EndsPost held asked (Serial (cause.Written object other)) = (seen : Seen) × IsT
 EndsPost held asked Foreign = Unit {0}
 EndsPost held asked _ = ⊥
 
+-- so did this, and so much is left of the transaction
+pub record EndsAtPost (held : Hold) (asked : Statement) (over : Over) : Type 0 where
+  pub why : EndsPost held asked over.why
+  pub left : IfSome over.left (IsLeftOn held)
+
 -- the step leads to where the statement leads
 pub record IsStep (steps : Shelves) (stand : Stand) (asked : Statement) (t : Where Stand) : Type 0 where
   pub shows : Shows steps t
@@ -76,13 +83,13 @@ pub record IsStep (steps : Shelves) (stand : Stand) (asked : Statement) (t : Whe
 abbrev pub WhenPosted : Shelves → Hold → Statement → Posting → Type 0
 WhenPosted steps held asked (posting.Done next at) = IsNext held.stand asked next × IsStep steps held.stand asked at
 WhenPosted steps held asked (posting.NoMemory left) = (left.statement ≡ asked) × IfSome left.work (IsWorkOf held.txn held.stand asked)
-WhenPosted steps held asked (posting.Over why) = EndsPost held asked why
+WhenPosted steps held asked (posting.Over over) = EndsAtPost held asked over
 
 -- what a post comes to where it makes the step, or is refused; none is want of memory
-abbrev pub posting_of : Statement → Next → Result (Where Stand) (Option Refusal) → Posting
+abbrev pub posting_of : Statement → Next → Result (Where Stand) (Option Over) → Posting
 posting_of asked next (Ok at) = posting.Done next at
 posting_of asked next (Err None) = posting.NoMemory (record { statement = asked; work = None })
-posting_of asked next (Err (Some why)) = posting.Over why
+posting_of asked next (Err (Some over)) = posting.Over over
 
 -- what was pending is posted, and what it comes to is told; or nothing was pending
 abbrev pub Posts : Draft → Option Statement → Option (Result Reply Refusal) → Draft → Type 0
@@ -119,14 +126,15 @@ abbrev pub IsOverFor : Option Refusal → Stand → Refusal → Type 0
 IsOverFor (Some before) stand why = why ≡ before
 IsOverFor None stand why = EndsCommit stand why
 
--- a commit that didn't happen: for want of memory the transaction comes back, without what was pending
+-- a commit that didn't happen: for want of memory the transaction comes back, without what was pending; else it has ended, and so it
+-- stood
 abbrev pub WhenFailed : {X : Type 0} → Draft → CommitFault X → Type 0
 WhenFailed old (fault.NoMemory t) = t ≡ without_pending old
-WhenFailed old (fault.Over why) = IsOverFor old.over old.stand why
+WhenFailed old (fault.Over why ended) = IsOverFor old.over old.stand why × IfSome ended (IsAttemptOf old.stand)
 
 -- no dangerous structure stopped it
 abbrev pub IsNoConflict : {X : Type 0} → CommitFault X → Type 0
-IsNoConflict (fault.Over why) = is_serial why ≡ false
+IsNoConflict (fault.Over why ended) = is_serial why ≡ false
 IsNoConflict _ = Unit {0}
 
 -- the receipt of its commit: the record is what it stands on, and the number is above its snapshot

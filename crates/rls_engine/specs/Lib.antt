@@ -1,6 +1,7 @@
 pub mod Stands
 pub mod Views
 pub mod Places
+pub mod Attempts
 pub mod Keeps
 pub mod Led
 pub mod Steps

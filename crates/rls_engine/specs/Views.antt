@@ -7,6 +7,8 @@ use Rattle.rls_core.specs.rls_guard.specs.rls_catalog.specs.State.{State}
 use Rattle.rls_core.specs.rls_guard.specs.rls_catalog.specs.StateCode.{state_code}
 use Rattle.rls_statement.specs.declared.statement.Statement.{Statement}
 use Rattle.rls_statement.specs.contracts.statement.Statement as statement
+use Rattle.rls_core.specs.declared.attempt.Attempt.{Attempt}
+use Rattle.rls_core.specs.contracts.attempt.Attempt as attempt
 use Rattle.rls_core.specs.Records.{Record}
 use Rattle.rls_core.specs.Seen.{Seen}
 use Rattle.rls_core.specs.SeenCode.{seen_code}
@@ -79,3 +81,6 @@ standing_code = code_by (ℕ × (Record × State)) (coded× coded_ℕ (coded× r
 
 abbrev pub closed_code : Coded Closed
 closed_code = code_by (Shelves × Seen) (coded× shelves_coded seen_code) (λ c. (c.commits, c.seen)) (λ p. record { commits = p.0; seen = p.1 }) (λ _. refl)
+
+abbrev pub attempt_code : Coded Attempt
+attempt_code = attempt.the_row.coded

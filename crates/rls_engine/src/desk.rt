@@ -4,10 +4,12 @@ ghost use Rattle.std.specs.Prelude.{◌≡◌, ◌≤◌, Some, true, length, If
 ghost use Rattle.rls_core.specs.rls_conflict.specs.Begun.{at_number};
 ghost use Rattle.rls_core.specs.rls_access.specs.Transactions.{first_ctx};
 ghost use Rattle.rls_core.specs.Events.Event.{RollsBack};
-ghost use Rattle.rls_core.specs.Seen.{nothing_yet, newest_state, world_of};
+ghost use Rattle.rls_core.specs.Attempts.{Leaves};
+ghost use Rattle.rls_core.specs.Seen.{nothing_yet, newest_state, runs_at, world_of};
 ghost use Rattle.rls_core.specs.Calls.{NotBegun, NotReady};
 ghost use Rattle.rls_core.specs.Opened.{Looks};
-ghost use Rattle.rls_core.specs.Headline.{HaveOrder, AreExplained, EachFindsSnapshots};
+ghost use Rattle.rls_core.specs.Headline.{HaveOrder, AreExplained, EachFindsSnapshots, RunAsRecorded};
+ghost use Rattle.rls_engine.specs.Attempts.{IsLeftOn};
 ghost use Rattle.rls_engine.specs.Led.{IsLed};
 ghost use Rattle.rls_engine.specs.Stands.{IsWorkOn};
 ghost use Rattle.rls_engine.specs.Places.{ArePlaced, HasPlace, IsBase, base_state};
@@ -18,11 +20,12 @@ use crate::commit::Commit;
 use crate::held::Held;
 use crate::named::Named;
 use crate::place::Place;
+use crate::posting::Over;
 use crate::step::Step;
 use boxcar::{Pushed, Vec as Shared};
 use rls_core::rls_access::Ctx;
 use rls_core::rls_rows::State;
-use rls_core::{Begin, Core, Ready, Record, Work};
+use rls_core::{Begin, Core, Ready, Record, Remains, Work, core_rules_are_safe, events_keep};
 use rls_value::Refusal;
 use std::alloc::{AllocError, Global};
 use std::collections::BTreeMap;
@@ -84,6 +87,15 @@ impl<N: Named> Desk<N> {
     {
         let _total = &self.total;
         let _history = self.core.history();
+    }
+
+    /// Each that runs has just what its statements come to alone on its snapshot.
+    fn recorded(&self)
+        ensures { RunAsRecorded (world_of self.now.seen) }
+    {
+        core_rules_are_safe();
+        events_keep();
+        let _core = &self.core;
     }
 
     /// How many have committed. The last one has its place.
@@ -196,30 +208,32 @@ impl<N: Named> Desk<N> {
         steps: &Shared<Step>,
         held: &Held<N>,
         work: Work,
-    ) -> Result<Pushed<Step>, Refusal>
+    ) -> Result<Pushed<Step>, Over>
         requires steps { steps.now ≡ N.steps }
         requires work { IsWorkOn held.now.stand work }
         requires asked { N.asks work.statement }
         requires txn { work.txn ≡ held.now.txn }
         ensures ok { IfOk result (HasPosted N.steps held.now work.statement self.old self.new) }
-        ensures err { IfErr result (PostStops held.now work.statement self.old self.new) }
+        ensures err { IfErr result (λ over. PostStops held.now work.statement self.old self.new over.why) }
+        ensures left { IfErr result (λ over. IfSome over.left (IsLeftOn held.now)) }
     {
+        self.recorded();
         if !self.fits(steps, held) {
             drop(work);
-            return Err(Refusal::Foreign);
+            return Err(Over::by(Refusal::Foreign));
         }
         let txn = held.txn;
         let Ok(at) = steps.push_shown(rt, Step::posted(&self.core, txn, work.statement.get()))
         else {
             drop(work);
-            return Err(Refusal::NoMemory);
+            return Err(Over::by(Refusal::NoMemory));
         };
-        match self.core.admit(alloc, work) {
+        match self.core.admit_or_end(alloc, work) {
             Ok(()) => {
                 set_token(&mut self.running, txn, at.again());
                 Ok(at)
             }
-            Err(refusal) => Err(refusal),
+            Err((why, left)) => Err(Over { why, left }),
         }
     }
 
@@ -232,19 +246,20 @@ impl<N: Named> Desk<N> {
         commits: &Shared<Commit>,
         steps: &Shared<Step>,
         held: &Held<N>,
-    ) -> Result<(u64, Pushed<Commit>, Share<N>, Record), Refusal>
+    ) -> Result<(u64, Pushed<Commit>, Share<N>, Record), Over>
         requires commits { commits.now ≡ N.commits }
         requires steps { steps.now ≡ N.steps }
         ensures ok { IfOk result (λ done. HasCommitted N.commits held.now self.old self.new done.0 done.1) }
         ensures share { IfOk result (λ done. (done.2.parts ≡ 1) × (done.2.amount ≡ 1)) }
         ensures entry { IfOk result (λ done. done.3 ≡ held.now.stand.running.so_far) }
-        ensures err { IfErr result (CommitStops held.now self.old self.new) }
+        ensures err { IfErr result (λ over. CommitStops held.now self.old self.new over.why) }
+        ensures left { IfErr result (λ over. IfSome over.left (IsLeftOn held.now)) }
     {
         if !self.fits(steps, held) {
-            return Err(Refusal::Foreign);
+            return Err(Over::by(Refusal::Foreign));
         }
         let Ok(()) = self.tokens.reserve(1) else {
-            return Err(Refusal::NoMemory);
+            return Err(Over::by(Refusal::NoMemory));
         };
         let ready = match self.core.ready(alloc, held.txn) {
             Ok(ready) => ready,
@@ -253,12 +268,12 @@ impl<N: Named> Desk<N> {
         let number = self.core.commits();
         let Ok((token, entry)) = place(rt, alloc, commits, &ready) else {
             drop(ready);
-            return Err(Refusal::NoMemory);
+            return Err(Over::by(Refusal::NoMemory));
         };
         if token.index() as u64 != number {
             drop(entry);
             drop(ready);
-            return Err(Refusal::Foreign);
+            return Err(Over::by(Refusal::Foreign));
         }
         self.core.seal(held.txn, ready);
         self.running.remove(&held.txn);
@@ -269,27 +284,47 @@ impl<N: Named> Desk<N> {
     }
 
     /// Ends the transaction where its commit is refused for a dangerous structure.
-    fn refuse(&mut self, held: &Held<N>, refusal: Refusal) -> Refusal
+    fn refuse(&mut self, held: &Held<N>, refusal: Refusal) -> Over
         requires fits { Fits self.old.seen held.now }
         requires why { NotReady self.old.seen held.now.txn refusal }
-        ensures { CommitStops held.now self.old self.new result }
+        ensures why { CommitStops held.now self.old self.new result.why }
+        ensures left { IfSome result.left (IsLeftOn held.now) }
     {
+        self.recorded();
         match refusal {
-            Refusal::Serial(why) => {
-                self.rollback(held.txn);
-                Refusal::Serial(why)
-            }
-            Refusal::NoMemory => Refusal::NoMemory,
-            _ => Refusal::Foreign,
+            Refusal::Serial(why) => Over {
+                left: self.rollback(held.txn),
+                why: Refusal::Serial(why),
+            },
+            Refusal::NoMemory => Over::by(Refusal::NoMemory),
+            _ => Over::by(Refusal::Foreign),
         }
     }
 
-    /// Ends the transaction, if it runs. It takes no memory.
-    pub(crate) fn rollback(&mut self, txn: u64)
-        ensures { IsEvent (RollsBack txn) self.old self.new }
+    /// Ends what is held, and gives what is left of it. It takes no memory.
+    pub(crate) fn end(&mut self, steps: &Shared<Step>, held: &Held<N>) -> Option<Remains>
+        requires { steps.now ≡ N.steps }
+        ensures event { IsEvent (RollsBack held.now.txn) self.old self.new }
+        ensures left { IfSome result (IsLeftOn held.now) }
     {
-        let _ = self.core.rollback(txn);
+        self.recorded();
+        let fits = self.fits(steps, held);
+        let left = self.rollback(held.txn);
+        if fits {
+            return left;
+        }
+        drop(left);
+        None
+    }
+
+    /// Ends the transaction, if it runs. It takes no memory.
+    fn rollback(&mut self, txn: u64) -> Option<Remains>
+        ensures event { IsEvent (RollsBack txn) self.old self.new }
+        ensures left { Leaves txn (runs_at self.old.seen txn) result }
+    {
+        let left = self.core.end(txn);
         self.running.remove(&txn);
+        left
     }
 }
 

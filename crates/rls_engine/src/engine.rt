@@ -4,23 +4,27 @@ ghost use Rattle.std.specs.Prelude.{◌≡◌, ◌≢◌, ◌≤◌, false, leng
 ghost use Rattle.rls_value.specs.declared.refusal.Refusal.TheVariants.{Foreign};
 ghost use Rattle.rls_core.specs.Seen.{world_of};
 ghost use Rattle.rls_core.specs.Headline.{HaveOrder, AreExplained};
+ghost use Rattle.rls_engine.specs.Attempts.{IsLeftOn};
 ghost use Rattle.rls_engine.specs.Led.{IsLed};
 ghost use Rattle.rls_engine.specs.Places.{HasPlace};
 ghost use Rattle.rls_engine.specs.Stands.{IsWorkOf, IsWorkOn};
-ghost use Rattle.rls_engine.specs.Drafts.{BeganAs, EndsPost, IsReceiptOf, IsStep, RefusesBegin, StopsCommit, IsNext, WhenPosted, posting_of};
+ghost use Rattle.rls_engine.specs.Steps.{PostStops};
+ghost use Rattle.rls_engine.specs.Views.{Hold, Kept};
+ghost use Rattle.rls_statement.specs.declared.statement.Statement.{Statement};
+ghost use Rattle.rls_engine.specs.Drafts.{BeganAs, EndsAtPost, IsReceiptOf, IsStep, RefusesBegin, StopsCommit, IsNext, WhenPosted, posting_of};
 
 use crate::book::Book;
 use crate::commit::Commit;
 use crate::desk::Desk;
 use crate::held::{Held, Next};
 use crate::named::{Named, Records};
-use crate::posting::{Pending, Posting};
+use crate::posting::{Over, Pending, Posting};
 use crate::receipt::Receipt;
 use crate::seen::Seen;
 use crate::step::Step;
 use crate::txn::Txn;
 use boxcar::{Pushed, Vec as Shared};
-use rls_core::{Begin, Core, Work};
+use rls_core::{Begin, Core, Remains, Work};
 use rls_statement::Statement;
 use rls_value::shared::Share;
 use rls_value::{Name, Refusal, or_drop};
@@ -193,19 +197,17 @@ impl<N: Named> Engine<N> {
         rt: &R,
         held: &Held<N>,
         work: Work,
-    ) -> Result<Pushed<Step>, Option<Refusal>>
+    ) -> Result<Pushed<Step>, Option<Over>>
         requires asked { N.asks work.statement }
         requires work { IsWorkOn held.now.stand work }
         requires txn { work.txn ≡ held.now.txn }
         ensures ok { IfOk result (IsStep N.steps held.now.stand work.statement) }
-        ensures err { IfErr result (λ why. IfSome why (EndsPost held.now work.statement)) }
+        ensures err { IfErr result (λ over. IfSome over (EndsAtPost held.now work.statement)) }
     {
         let posted = self.enter(rt).post(rt, self.alloc, &self.steps, held, work);
         match posted {
             Ok(at) => Ok(at),
-            Err(Refusal::NoMemory) => Err(None),
-            Err(Refusal::Serial(why)) => Err(Some(Refusal::Serial(why))),
-            Err(_) => Err(Some(Refusal::Foreign)),
+            Err(over) => Err(ending(over)),
         }
     }
 
@@ -215,10 +217,11 @@ impl<N: Named> Engine<N> {
         rt: &R,
         held: &Held<N>,
         role: Name,
-    ) -> Result<Receipt<N>, Refusal>
+    ) -> Result<Receipt<N>, Over>
         requires role { role ≡ held.now.stand.running.ctx.role }
         ensures ok { IfOk result (IsReceiptOf self.now held.now.stand) }
-        ensures why { IfErr result (StopsCommit held.now.stand) }
+        ensures why { IfErr result (λ over. StopsCommit held.now.stand over.why) }
+        ensures left { IfErr result (λ over. IfSome over.left (IsLeftOn held.now)) }
     {
         let made = self
             .enter(rt)
@@ -232,16 +235,18 @@ impl<N: Named> Engine<N> {
                 token,
                 share: Some(share),
             }),
-            Err(refusal) => {
+            Err(over) => {
                 drop(role);
-                Err(refusal)
+                Err(over)
             }
         }
     }
 
-    /// Ends a transaction: one hold of the lock.
-    pub(crate) fn rollback<R: Wait>(&self, rt: &R, txn: u64) {
-        self.enter(rt).rollback(txn);
+    /// Ends what is held, and gives what is left of it: one hold of the lock.
+    pub(crate) fn end<R: Wait>(&self, rt: &R, held: &Held<N>) -> Option<Remains>
+        ensures { IfSome result (IsLeftOn held.now) }
+    {
+        self.enter(rt).end(&self.steps, held)
     }
 
     /// How many have committed: no fewer than receipts count in the `Seen`, and no more than have a place.
@@ -306,14 +311,39 @@ impl<N: Named> Engine<N> {
 fn posting_of(
     statement: Share<Statement>,
     next: Next,
-    posted: Result<Pushed<Step>, Option<Refusal>>,
+    posted: Result<Pushed<Step>, Option<Over>>,
 ) -> Posting
     ensures { result ≡ posting_of statement next posted }
 {
     match posted {
         Ok(at) => Posting::Done(next, at),
         Err(None) => Posting::NoMemory(Pending::asked(statement)),
-        Err(Some(why)) => Posting::Over(why),
+        Err(Some(over)) => Posting::Over(over),
+    }
+}
+
+/// What ended the transaction at a post; none is want of memory, which ends nothing.
+#[tactic(auto, using(crate::proofs::HoldLemmas::ends_post))]
+fn ending(over: Over) -> Option<Over>
+    ensures { (held : Hold) (asked : Statement) (old new : Kept) → PostStops held asked old new over.why → IfSome over.left (IsLeftOn held) → IfSome result (EndsAtPost held asked) }
+{
+    let Over { why, left } = over;
+    match why {
+        Refusal::NoMemory => {
+            drop(left);
+            None
+        }
+        Refusal::Serial(cause) => Some(Over {
+            why: Refusal::Serial(cause),
+            left,
+        }),
+        why => {
+            drop(why);
+            Some(Over {
+                why: Refusal::Foreign,
+                left,
+            })
+        }
     }
 }
 

@@ -4,6 +4,7 @@
 mod book;
 mod commit;
 mod desk;
+mod ended;
 mod engine;
 mod held;
 mod named;
@@ -16,6 +17,7 @@ mod txn;
 
 pub use book::Book;
 pub use commit::Commit;
+pub use ended::Ended;
 pub use engine::Engine;
 pub use held::Told;
 pub use named::{Named, Records};

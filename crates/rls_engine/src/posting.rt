@@ -5,7 +5,7 @@ ghost use Rattle.std.specs.Prelude.{◌≡◌, None};
 use crate::held::Next;
 use crate::step::Step;
 use boxcar::Pushed;
-use rls_core::Work;
+use rls_core::{Remains, Work};
 use rls_statement::Statement;
 use rls_value::Refusal;
 use rls_value::shared::Share;
@@ -37,5 +37,21 @@ pub(crate) enum Posting {
     /// There was no memory.
     NoMemory(Pending),
     /// The transaction is over.
-    Over(Refusal),
+    Over(Over),
+}
+
+/// Why a call of a transaction stopped, and what is left of the transaction where it is over.
+#[derive(Drop)]
+pub(crate) struct Over {
+    pub(crate) why: Refusal,
+    pub(crate) left: Option<Remains>,
+}
+
+impl Over {
+    /// Nothing is left.
+    pub(crate) fn by(why: Refusal) -> Over
+        ensures { result ≡ record { why = why; left = None } }
+    {
+        Over { why, left: None }
+    }
 }

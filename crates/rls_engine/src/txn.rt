@@ -5,13 +5,15 @@ ghost use Rattle.std.specs.Option.{is_some, option_copied};
 ghost use Rattle.rls_core.specs.rls_guard.specs.rls_catalog.specs.Changed.{opening};
 ghost use Rattle.rls_engine.specs.Stands.{IsWorkOf, sees};
 ghost use Rattle.boxcar.specs.Table.{Shows};
-ghost use Rattle.rls_engine.specs.Drafts.{Posts, IsReceiptOf, IsNoConflict, WhenFailed, WhenRefused, with_pending, without_pending};
+ghost use Rattle.rls_engine.specs.Attempts.{IsAttemptOf, IsLeftOn};
+ghost use Rattle.rls_engine.specs.Drafts.{Posts, IsReceiptOf, IsNoConflict, StopsCommit, WhenFailed, WhenRefused, hold_of, with_pending, without_pending};
 
+use crate::ended::{Ended, ended_of};
 use crate::engine::Engine;
 use crate::held::{Held, Next, Told};
 use crate::named::Named;
 use crate::place::Place;
-use crate::posting::{Pending, Posting};
+use crate::posting::{Over, Pending, Posting};
 use crate::receipt::Receipt;
 use crate::step::Step;
 use boxcar::Pushed;
@@ -27,22 +29,23 @@ pub struct Txn<'a, N: Named> {
     engine: &'a Engine<N>,
     held: Held<N>,
     pending: Option<Pending>,
-    over: Option<Refusal>,
+    over: Option<Over>,
 }
 
 impl<'a, N: Named> Model for Txn<'a, N> {
     ghost use Rattle.std.specs.Prelude.{IfSome};
     ghost use Rattle.std.specs.Option.{option_map};
     ghost use Rattle.rls_engine.specs.Views.{Draft, draft_code};
+    ghost use Rattle.rls_engine.specs.Attempts.{IsLeftOn};
     ghost use Rattle.rls_engine.specs.Stands.{IsWorkOf};
 
     ghost Value = { Draft };
 
     ghost coded = { draft_code };
 
-    ghost view = { λ it. record { tag = it.engine.now; txn = it.held.txn; stand = it.held.stand; pending = option_map (λ pending. pending.statement) it.pending; over = it.over } };
+    ghost view = { λ it. record { tag = it.engine.now; txn = it.held.txn; stand = it.held.stand; pending = option_map (λ pending. pending.statement) it.pending; over = option_map (λ over. over.why) it.over } };
 
-    ghost invariant = { λ it. IfSome it.pending (λ pending. N.asks pending.statement × IfSome pending.work (IsWorkOf it.held.txn it.held.stand pending.statement)) };
+    ghost invariant = { λ it. IfSome it.pending (λ pending. N.asks pending.statement × IfSome pending.work (IsWorkOf it.held.txn it.held.stand pending.statement)) × IfSome it.over (λ over. IfSome over.left (IsLeftOn it.held)) };
 }
 
 /// Why a post didn't happen.
@@ -58,8 +61,8 @@ pub enum PostFault {
 pub enum CommitFault<'a, N: Named> {
     /// For want of memory; the transaction comes back, without what was pending.
     NoMemory(Txn<'a, N>),
-    /// The transaction is over.
-    Over(Refusal),
+    /// The transaction is over, and this is the attempt.
+    Over(Refusal, Option<Ended<N>>),
 }
 
 impl<'a, N: Named> Txn<'a, N> {
@@ -100,7 +103,10 @@ impl<'a, N: Named> Txn<'a, N> {
     pub fn over(&self) -> Option<&Refusal>
         ensures { option_copied result ≡ self.now.over }
     {
-        self.over.as_ref()
+        match &self.over {
+            Some(over) => Some(&over.why),
+            None => None,
+        }
     }
 
     /// Computes a statement on the snapshot under the transaction's own changes, and leaves it pending, in place of one that was
@@ -137,8 +143,8 @@ impl<'a, N: Named> Txn<'a, N> {
                 self.put_back(pending);
                 Err(PostFault::NoMemory)
             }
-            Posting::Over(refusal) => {
-                self.end_by(refusal);
+            Posting::Over(over) => {
+                self.end_by(over);
                 Err(PostFault::Over)
             }
         }
@@ -154,10 +160,11 @@ impl<'a, N: Named> Txn<'a, N> {
     }
 
     /// It is over.
-    fn end_by(&mut self, refusal: Refusal)
-        ensures { self.new ≡ record self.old { over = Some refusal } }
+    fn end_by(&mut self, over: Over)
+        requires { IfSome over.left (IsLeftOn (hold_of self.old)) }
+        ensures { self.new ≡ record self.old { over = Some over.why } }
     {
-        self.over = Some(refusal);
+        self.over = Some(over);
     }
 
     /// Takes out what is pending.
@@ -173,6 +180,7 @@ impl<'a, N: Named> Txn<'a, N> {
     /// It stands where the step leads.
     fn settle(&mut self, next: Next, at: Pushed<Step>) -> Told
         requires pending { self.old.pending ≡ None }
+        requires over { self.old.over ≡ None }
         requires shows { Shows N.steps at }
         requires snap { at.value.running.so_far.snap ≡ self.old.stand.running.so_far.snap }
         requires base { at.value.base ≡ self.old.stand.base }
@@ -198,16 +206,12 @@ impl<'a, N: Named> Txn<'a, N> {
             pending: _,
             over,
         } = self;
-        if let Some(why) = over {
-            return Err(CommitFault::Over(why));
-        }
-        let Ok(role) = held.role() else {
-            return Err(CommitFault::NoMemory(Txn::new(engine, held)));
-        };
-        match engine.commit(rt, &held, role) {
-            Ok(receipt) => Ok(receipt),
-            Err(Refusal::NoMemory) => Err(CommitFault::NoMemory(Txn::new(engine, held))),
-            Err(refusal) => Err(CommitFault::Over(refusal)),
+        match over {
+            Some(over) => {
+                let Over { why, left } = over;
+                Err(CommitFault::Over(why, ended_of(held, left)))
+            }
+            None => commit_held(rt, engine, held),
         }
     }
 
@@ -220,13 +224,68 @@ impl<'a, N: Named> Txn<'a, N> {
     pub fn end<R: Wait>(self, rt: &R) -> Option<Refusal>
         ensures { result ≡ self.entry.over }
     {
+        let (over, ended) = self.give_up(rt);
+        drop(ended);
+        over
+    }
+
+    /// The same, and gives the attempt: what it began as, and its statements with what each came to. There is none where it is no
+    /// transaction of its engine that runs, which no public call brings about.
+    pub fn give_up<R: Wait>(self, rt: &R) -> (Option<Refusal>, Option<Ended<N>>)
+        ensures over { result.0 ≡ self.entry.over }
+        ensures ended { IfSome result.1 (IsAttemptOf self.entry.stand) }
+    {
         let Txn {
             engine,
             held,
             pending: _,
             over,
         } = self;
-        engine.rollback(rt, held.txn);
-        over
+        let left = engine.end(rt, &held);
+        match over {
+            Some(over) => {
+                drop(left);
+                let Over { why, left } = over;
+                (Some(why), ended_of(held, left))
+            }
+            None => (None, ended_of(held, left)),
+        }
+    }
+}
+
+/// Commits what is held.
+fn commit_held<'a, R: Wait, N: Named>(
+    rt: &R,
+    engine: &'a Engine<N>,
+    held: Held<N>,
+) -> Result<Receipt<N>, CommitFault<'a, N>>
+    ensures ok { IfOk result (IsReceiptOf engine.now held.stand) }
+    ensures err { IfErr result (WhenFailed record { tag = engine.now; txn = held.txn; stand = held.stand; pending = None; over = None }) }
+    ensures fresh { held.stand.running.so_far.noted ≡ [] → IfErr result IsNoConflict }
+{
+    let Ok(role) = held.role() else {
+        return Err(CommitFault::NoMemory(Txn::new(engine, held)));
+    };
+    match engine.commit(rt, &held, role) {
+        Ok(receipt) => Ok(receipt),
+        Err(over) => Err(stopped(engine, held, over)),
+    }
+}
+
+/// Why the commit of what is held didn't happen.
+#[tactic(auto, using(crate::proofs::HoldLemmas::ends_commit, crate::proofs::HoldLemmas::no_conflict))]
+fn stopped<'a, N: Named>(engine: &'a Engine<N>, held: Held<N>, over: Over) -> CommitFault<'a, N>
+    requires why { StopsCommit held.stand over.why }
+    requires left { IfSome over.left (IsLeftOn held) }
+    ensures failed { WhenFailed record { tag = engine.now; txn = held.txn; stand = held.stand; pending = None; over = None } result }
+    ensures fresh { held.stand.running.so_far.noted ≡ [] → IsNoConflict result }
+{
+    let Over { why, left } = over;
+    match why {
+        Refusal::NoMemory => {
+            drop(left);
+            CommitFault::NoMemory(Txn::new(engine, held))
+        }
+        why => CommitFault::Over(why, ended_of(held, left)),
     }
 }

@@ -75,7 +75,8 @@ pub struct ExecutionState {
     pub cached_rows: BTreeMap<Object, CachedRows>,
     pub cached_subplans: Vec<CachedSubplan>,
     pub cached_indexes: Vec<CachedIndex>,
-    /// Where an answer is sought first: expressions are evaluated again and again in the same order.
+    /// Where an answer is sought first: expressions are evaluated again and again in the same order. `usize::MAX` where the
+    /// first answer isn't kept, since it won't be sought again.
     pub next: usize,
 }
 
@@ -110,6 +111,10 @@ impl ExecutionState {
         ensures read_set { self.new.read_set ≡ self.old.read_set }
         ensures holds { OnOk result ((relations : List SecuredRelation) (user : List ℕ) (s : State) → Holds relations user s self.old → Holds relations user s self.new) }
     {
+        if self.next == usize::MAX {
+            self.next = 0;
+            return Ok(None);
+        }
         let next = wrapped(self.next, self.cached_subplans.len());
         if rests_at(&mut self.cached_subplans, next) {
             self.next = next.wrapping_add(1);

@@ -2,3 +2,4 @@ pub mod Taking
 pub mod Telling
 pub mod Collecting
 pub mod NoTables
+pub mod ConditionsLemmas

@@ -4,5 +4,6 @@ pub mod Enough
 pub mod Leading
 pub mod Dependencies
 pub mod Relations
+pub mod Conditions
 pub mod Selected
 pub mod Expanding

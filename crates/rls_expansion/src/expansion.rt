@@ -1,12 +1,14 @@
 //! The policy expansion of a statement.
 
 ghost use Rattle.std.specs.Prelude.{◌≡◌, [], ◌++◌, IfOk, OnOk};
-ghost use Rattle.std.specs.Option.{option_copied};
+ghost use Rattle.std.specs.{List.All, Option.option_copied};
 ghost use Rattle.rls_value.specs.Giving.{Gives};
 ghost use Rattle.rls_guard.specs.rls_catalog.specs.rls_expr.specs.Scopes.{in_scope};
 ghost use Rattle.rls_guard.specs.rls_source.specs.Answering.{Answers};
+ghost use Rattle.rls_expansion.specs.Conditions.{AreResolved};
 ghost use Rattle.rls_expansion.specs.Expanding as spec;
 
+use crate::conditions::Conditions;
 use crate::dependencies::dependencies_of;
 use crate::policies::policies_for;
 use crate::relations::{known_in, relations_of};
@@ -115,7 +117,8 @@ fn past_policies<'c, 'x, S: RowSource<'c>>(
 ) -> Result<PolicyExpansion<'c>, Refusal>
     ensures { Answers S.state S.after (spec.past_policies role_privileges.now from.entry.name.now from.entry.table.now command.kind command.reads queries.now (option_copied policies.entry)) source.old source.new read_set.old read_set.new result }
 {
-    let tables = tables_from(alloc, role_privileges, command, policies, queries)?;
+    let own = own_tables(alloc, role_privileges, command, policies)?;
+    let tables = tables_from(alloc, own.as_slice(), queries)?;
     let dependencies = dependencies_of(
         alloc,
         source,
@@ -130,26 +133,29 @@ fn past_policies<'c, 'x, S: RowSource<'c>>(
         from,
         command,
         policies,
+        own.as_slice(),
         queries,
         dependencies.as_slice(),
     )
 }
 
 /// The tables that the policies lead to, then those of the statement's subqueries.
-fn tables_from(
-    alloc: Global,
-    role_privileges: &RolePrivileges,
-    command: Command,
-    policies: Option<&Policies>,
-    queries: &[Name],
-) -> Result<Items<Name>, AllocError>
-    ensures { IfOk result (λ tables. tables ≡ spec.own_tables role_privileges.now command.kind command.reads (option_copied policies.entry) ++ queries.now) }
+fn tables_from(alloc: Global, own: &[Name], queries: &[Name]) -> Result<Items<Name>, AllocError>
+    ensures { IfOk result (λ tables. tables ≡ own.now ++ queries.now) }
 {
-    let mut tables = own_tables(alloc, role_privileges, command, policies)?;
-    for name in queries {
+    let mut tables = Items::new(alloc);
+    put_copies(&mut tables, own)?;
+    put_copies(&mut tables, queries)?;
+    Ok(tables)
+}
+
+fn put_copies(tables: &mut Items<Name>, names: &[Name]) -> Result<(), AllocError>
+    ensures { OnOk result (tables.new ≡ tables.old ++ names.now) }
+{
+    for name in names {
         tables.push(name.copy()?)?;
     }
-    Ok(tables)
+    Ok(())
 }
 
 fn own_tables(
@@ -220,15 +226,14 @@ fn expand<'c, 'x>(
     from: FromTable<'x>,
     command: Command,
     policies: Option<&'c Policies>,
+    own: &[Name],
     queries: &[Name],
     dependencies: &[PolicyDependency<'c>],
 ) -> Result<PolicyExpansion<'c>, Refusal>
+    requires { own.now ≡ spec.own_tables role_privileges.now command.kind command.reads (option_copied policies) }
     ensures { Gives result (spec.expansion_by role_privileges.now command.kind command.reads (in_scope from.entry) (option_copied policies.entry) queries.now dependencies.now) }
 {
-    let own = own_tables(alloc, role_privileges, command, policies)?;
-    let reached = search(alloc, dependencies, from.name, own.as_slice(), queries);
-    drop(own);
-    let reached = reached?;
+    let reached = search(alloc, dependencies, from.name, own, queries)?;
     let made = expanded_from(
         alloc,
         role_privileges,
@@ -241,6 +246,7 @@ fn expand<'c, 'x>(
     Ok(made)
 }
 
+#[tactic(auto, using(crate::proofs::ConditionsLemmas::side_resolved))]
 fn expanded_from<'c, 'x>(
     alloc: Global,
     role_privileges: &RolePrivileges,
@@ -261,8 +267,12 @@ fn expanded_from<'c, 'x>(
         from,
         found: found.as_slice(),
     };
-    let own = own_selected(alloc, role_privileges, scope, command, policies)?;
     let (old, new) = both_sides(alloc, role_privileges, scope, command, policies)?;
+    let known = Conditions {
+        old: old.as_slice(),
+        new: new.as_slice(),
+    };
+    let own = own_selected(alloc, role_privileges, scope, command, policies, known)?;
     drop(found);
     Ok(PolicyExpansion {
         old,
@@ -275,13 +285,16 @@ fn expanded_from<'c, 'x>(
 }
 
 /// The tables of the subqueries in the policies of the statement's table, with their columns.
-fn own_selected<'x>(
+fn own_selected<'r, 'c, 'x>(
     alloc: Global,
     role_privileges: &RolePrivileges,
     scope: PolicyScope<'x>,
     command: Command,
     policies: Option<&Policies>,
+    known: Conditions<'r, 'c>,
 ) -> Result<Items<SelectedTable>, AllocError>
+    requires old { All (AreResolved (in_scope scope.from) scope.found.now) known.old.now }
+    requires new { All (AreResolved (in_scope scope.from) scope.found.now) known.new.now }
     ensures { IfOk result (λ selected. selected ≡ spec.own_selected role_privileges.now command.kind command.reads (in_scope scope.entry.from) scope.entry.found.now (option_copied policies.entry)) }
 {
     match policies {
@@ -294,6 +307,7 @@ fn own_selected<'x>(
                 &role_privileges.effective_roles,
                 &asks,
                 scope,
+                known,
             )
         }
     }

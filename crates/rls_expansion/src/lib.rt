@@ -2,6 +2,7 @@
 //! state, and what is made of them.
 #![tactic(auto)]
 
+mod conditions;
 mod dependencies;
 mod expansion;
 mod laws;

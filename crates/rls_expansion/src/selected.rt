@@ -2,10 +2,13 @@
 //! mentions.
 
 ghost use Rattle.std.specs.Prelude.{◌≡◌, ◌++◌, IfOk, OnOk};
+ghost use Rattle.std.specs.List.{All};
 ghost use Rattle.rls_guard.specs.rls_catalog.specs.rls_expr.specs.{Resolving.resolved, Scopes.in_scope, Selecting.selected_of};
 ghost use Rattle.rls_guard.specs.Naming.{names_over};
+ghost use Rattle.rls_expansion.specs.Conditions.{AreResolved};
 ghost use Rattle.rls_expansion.specs.Selected as spec;
 
+use crate::conditions::Conditions;
 use crate::used::{asks_check, asks_using, is_to};
 use rls_guard::rls_catalog::rls_expr::{
     Expr, NamedTable, Policy, SelectedTable, has_query, put_selected,
@@ -19,14 +22,17 @@ use rls_value::{Items, Kind, Reference};
 use std::alloc::{AllocError, Global};
 
 /// Those in the expressions that the policies are asked for: of each policy that applies to the role, in their order, first
-/// those in USING, then those in WITH CHECK, in text order.
-pub(crate) fn selected_used<'x>(
+/// those in USING, then those in WITH CHECK, in text order. An expression that a row check has resolved isn't resolved anew.
+pub(crate) fn selected_used<'r, 'c, 'x>(
     alloc: Global,
     policies: &Policies,
     effective_roles: &EffectiveRoles,
     asks: &[(Kind, Side)],
     scope: PolicyScope<'x>,
+    known: Conditions<'r, 'c>,
 ) -> Result<Items<SelectedTable>, AllocError>
+    requires old { All (AreResolved (in_scope scope.from) scope.found.now) known.old.now }
+    requires new { All (AreResolved (in_scope scope.from) scope.found.now) known.new.now }
     ensures { IfOk result (λ selected. selected ≡ spec.selected_used effective_roles.now.superuser effective_roles.now.names asks.now (in_scope scope.entry.from) scope.entry.found.now policies.now) }
 {
     let mut selected = Items::new(alloc);
@@ -38,36 +44,43 @@ pub(crate) fn selected_used<'x>(
             effective_roles,
             asks,
             scope,
+            known,
         )?;
     }
     Ok(selected)
 }
 
 /// Those of one policy, behind those that are there.
-fn put_used<'x>(
+fn put_used<'r, 'c, 'x>(
     alloc: Global,
     selected: &mut Items<SelectedTable>,
     policy: &Policy,
     effective_roles: &EffectiveRoles,
     asks: &[(Kind, Side)],
     scope: PolicyScope<'x>,
+    known: Conditions<'r, 'c>,
 ) -> Result<(), AllocError>
+    requires old { All (AreResolved (in_scope scope.from) scope.found.now) known.old.now }
+    requires new { All (AreResolved (in_scope scope.from) scope.found.now) known.new.now }
     ensures { OnOk result (selected.new ≡ selected.old ++ spec.selected_by effective_roles.now.superuser effective_roles.now.names asks.now (in_scope scope.entry.from) scope.entry.found.now policy.now) }
 {
     if is_to(policy, effective_roles) {
-        put_asked(alloc, selected, policy, asks, scope)
+        put_asked(alloc, selected, policy, asks, scope, known)
     } else {
         Ok(())
     }
 }
 
-fn put_asked<'x>(
+fn put_asked<'r, 'c, 'x>(
     alloc: Global,
     selected: &mut Items<SelectedTable>,
     policy: &Policy,
     asks: &[(Kind, Side)],
     scope: PolicyScope<'x>,
+    known: Conditions<'r, 'c>,
 ) -> Result<(), AllocError>
+    requires old { All (AreResolved (in_scope scope.from) scope.found.now) known.old.now }
+    requires new { All (AreResolved (in_scope scope.from) scope.found.now) known.new.now }
     ensures { OnOk result (selected.new ≡ selected.old ++ spec.selected_asked asks.now (in_scope scope.entry.from) scope.entry.found.now policy.now) }
 {
     put_where(
@@ -76,6 +89,7 @@ fn put_asked<'x>(
         asks_using(policy, asks),
         &policy.using,
         scope,
+        known,
     )?;
     put_where(
         alloc,
@@ -83,23 +97,54 @@ fn put_asked<'x>(
         asks_check(policy, asks),
         &policy.check,
         scope,
+        known,
     )
 }
 
 /// Those of an expression, where it is asked for.
-fn put_where<'x>(
+fn put_where<'r, 'c, 'x>(
     alloc: Global,
     selected: &mut Items<SelectedTable>,
     asked: bool,
     expr: &Option<Share<Expr>>,
     scope: PolicyScope<'x>,
+    known: Conditions<'r, 'c>,
 ) -> Result<(), AllocError>
+    requires old { All (AreResolved (in_scope scope.from) scope.found.now) known.old.now }
+    requires new { All (AreResolved (in_scope scope.from) scope.found.now) known.new.now }
     ensures { OnOk result (selected.new ≡ selected.old ++ spec.selected_where asked (in_scope scope.entry.from) scope.entry.found.now expr.now) }
 {
-    if asked {
-        put_if(alloc, selected, expr, scope)
-    } else {
-        Ok(())
+    match expr {
+        Some(expr) => {
+            if asked {
+                put_known(alloc, selected, expr.get(), scope, known)
+            } else {
+                Ok(())
+            }
+        }
+        None => Ok(()),
+    }
+}
+
+/// Those of an expression, which may be resolved already.
+#[tactic(auto, using(crate::proofs::NoTables::none_selected_behind))]
+fn put_known<'r, 'c, 'x>(
+    alloc: Global,
+    selected: &mut Items<SelectedTable>,
+    expr: &Expr,
+    scope: PolicyScope<'x>,
+    known: Conditions<'r, 'c>,
+) -> Result<(), AllocError>
+    requires old { All (AreResolved (in_scope scope.from) scope.found.now) known.old.now }
+    requires new { All (AreResolved (in_scope scope.from) scope.found.now) known.new.now }
+    ensures { OnOk result (selected.new ≡ selected.old ++ selected_of scope.entry.found.now (resolved expr.now (names_over (in_scope scope.entry.from) scope.entry.found.now))) }
+{
+    if !has_query(expr) {
+        return Ok(());
+    }
+    match known.resolved(scope, expr) {
+        Some(condition) => put_selected(alloc, selected, scope.found, condition),
+        None => put_of(alloc, selected, expr, scope),
     }
 }
 

@@ -14,6 +14,9 @@ use rls_value::shared::Share;
 use rls_value::{Items, Kind, Name, PolicyKind};
 use std::alloc::{AllocError, Global};
 
+/// Most expressions have no more names, so that their list needn't grow.
+const USUAL_STEPS: usize = 8;
+
 /// The tables of the subqueries in the expressions that the policies are asked for: of each policy that applies to the role,
 /// in their order, first those in USING, then those in WITH CHECK, in text order.
 pub fn tables_used(
@@ -128,7 +131,7 @@ pub fn put_tables(alloc: Global, tables: &mut Items<Name>, expr: &Expr) -> Resul
     if !has_query(expr) {
         return Ok(());
     }
-    let mut steps = Vec::new(alloc);
+    let mut steps = Vec::with_capacity(alloc, USUAL_STEPS)?;
     put_names(&mut steps, expr)?;
     let put = put_entered(tables, &steps);
     drop(steps);

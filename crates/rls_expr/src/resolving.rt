@@ -327,7 +327,7 @@ fn resolve_condition(
 fn resolve_all(alloc: Global, parts: &[Expr], scope: &Scope) -> Result<Items<Expr>, AllocError>
     ensures { IfOk result (λ all. terms_of all ≡ resolved_all (terms_of parts.now) (names_in scope.now)) }
 {
-    let mut all = Items::new(alloc);
+    let mut all = Items::with_capacity(alloc, parts.len())?;
     for part in parts {
         let part = resolve_columns(alloc, part, scope)?;
         all.push(part)?;

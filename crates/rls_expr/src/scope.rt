@@ -83,7 +83,7 @@ pub fn inside<'c>(
 ) -> Result<Vec<NamedTable<'c>>, AllocError>
     ensures { IfOk result (λ all. all.items ≡ from.entry ∷ tables.now) }
 {
-    let mut all = Vec::with_capacity(alloc, tables.len())?;
+    let mut all = Vec::with_capacity(alloc, tables.len().saturating_add(1))?;
     all.push(from)?;
     for table in tables {
         all.push(table.copy()?)?;

@@ -37,7 +37,7 @@ pub fn row_checks_by<'c, 'x>(
 ) -> Result<Items<RowCheck<'c>>, AllocError>
     ensures { IfOk result (λ row_checks. row_checks ≡ spec.row_checks_by role_privileges.now kind reads (in_scope scope.entry.from) scope.entry.found.now (option_copied policies.entry) side) }
 {
-    let mut row_checks = Items::new(alloc);
+    let mut row_checks = Items::with_capacity(alloc, 2)?;
     row_checks.push(row_check_by(alloc, role_privileges, scope, kind, side, policies)?)?;
     if reads {
         row_checks.push(row_check_by(
@@ -111,7 +111,7 @@ pub fn conditions_of<'c, 'x>(
 ) -> Result<Items<(Reference<'c, Policy>, Expr)>, AllocError>
     ensures { IfOk result (λ conditions. conditions ≡ spec.conditions_of kind side (in_scope scope.entry.from) scope.entry.found.now policies.now) }
 {
-    let mut conditions = Items::new(alloc);
+    let mut conditions = Items::with_capacity(alloc, policies.len())?;
     for policy in policies {
         let policy = policy.get();
         if let Some(expr) = expression_of(policy, kind, side) {

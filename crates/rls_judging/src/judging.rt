@@ -12,8 +12,8 @@ use crate::alike::{are_alike, put_both};
 use crate::check_context::{CheckContext, mark_all};
 use rls_evaluation::rls_source::{Reads, RowSource};
 use rls_evaluation::{
-    Env, ExecutionState, Looked, Scoped, Tables, VisibleRelations, allows, meets_condition,
-    verdict_on,
+    Env, ExecutionState, Looked, Scoped, SecurityQuals, Tables, VisibleRelations, allows,
+    meets_condition, verdict_on,
 };
 use rls_guard::rls_catalog::rls_expr::Expr;
 use rls_guard::rls_catalog::{BorrowedRow, Stored};
@@ -127,7 +127,13 @@ fn judge_all<'a, 'c, T: Tables>(
     requires { Holds check_context.relations.now check_context.role.now (T.state tables.old) execution.old }
     ensures { Evaluates (spec.judged_all check_context.entry.row_checks.now check_context.entry.relations.now check_context.entry.role.now condition.now scanned_rows.now) (T.state tables.old) (T.state tables.new) execution.old.read_set execution.new.read_set (judged_now result) }
 {
-    let alike = scanned_rows.len() > 1 && are_alike(check_context.row_checks);
+    let alike = !scanned_rows.is_empty() && are_alike(check_context.row_checks);
+    execution.next = first_place(
+        execution.next,
+        scanned_rows.len(),
+        check_context.row_checks,
+        alike,
+    );
     let each = check_context.row_checks.len().saturating_add(further);
     let most = scanned_rows.len().saturating_mul(each);
     let mut decisions = Vec::with_capacity(alloc, most)?;
@@ -149,6 +155,32 @@ fn judge_all<'a, 'c, T: Tables>(
     }
     drop(judgements);
     Ok((decisions, qualifying_rows))
+}
+
+/// Where an answer of a subquery is sought first: where one condition is asked of one row, the first isn't kept, since it
+/// won't be sought again.
+fn first_place(next: usize, rows: usize, row_checks: &[RowCheck], alike: bool) -> usize {
+    if rows == 1 && is_asked_once(row_checks, alike) {
+        usize::MAX
+    } else {
+        next
+    }
+}
+
+/// Whether one condition is asked of a row.
+fn is_asked_once(row_checks: &[RowCheck], alike: bool) -> bool {
+    match row_checks {
+        [first] => has_one(&first.quals),
+        [first, _] => alike && has_one(&first.quals),
+        _ => false,
+    }
+}
+
+fn has_one(quals: &SecurityQuals) -> bool {
+    match quals {
+        SecurityQuals::Policies(conditions) => conditions.as_slice().len() == 1,
+        SecurityQuals::Exempt => false,
+    }
 }
 
 /// The row behind the others, if it qualifies.
@@ -375,7 +407,8 @@ fn judge_new<'a, 'c, T: Tables>(
     requires { Holds check_context.relations.now check_context.role.now (T.state tables.old) execution.old }
     ensures { Evaluates (spec.judged_new check_context.entry.row_checks.now check_context.entry.relations.now check_context.entry.role.now rows.now) (T.state tables.old) (T.state tables.new) execution.old.read_set execution.new.read_set (items_now result) }
 {
-    let alike = rows.len() > 1 && are_alike(check_context.row_checks);
+    let alike = !rows.is_empty() && are_alike(check_context.row_checks);
+    execution.next = first_place(execution.next, rows.len(), check_context.row_checks, alike);
     let most = rows.len().saturating_mul(check_context.row_checks.len());
     let mut decisions = Vec::with_capacity(alloc, most)?;
     let mut judgements = Vec::new(alloc);

@@ -28,8 +28,8 @@ use Rattle.rls_script.specs.declared.requesting.Ask.{Ask}
 use Rattle.rls_script.specs.declared.requesting.Ask.TheVariants as ask
 use Rattle.rls_script.specs.declared.requesting.Request.{Request}
 use Rattle.rls_script.specs.declared.requesting.Request.TheVariants as q
-use Rattle.rls_session.specs.Parts.{Part, Block, Session, Shown, Notes, part_of, noted, newest_after}
-use Rattle.rls_session.specs.Blocks.{Came, Given, Ticket, Executes, begun, committed, connected, given, given_as, given_in, in_block, posted, ran, rolled_back}
+use Rattle.rls_session.specs.Parts.{Part, Block, Session, Shown, Notes, part_of, newest_after}
+use Rattle.rls_session.specs.Blocks.{Came, Given, Ticket, Executes, begun, committed, connected, given, given_as, given_in, in_block, noted_given, open_part, posted, ran, rolled_back}
 use Rattle.rls_session.specs.Books.{AreTheRecords, IsBooked}
 use Rattle.rls_session.specs.Labels.{Entry, Script, opening_script, place_of, session_of, with_session, AnswersIf, AnswersUnder, ExecutesUnder}
 use Rattle.rls_session.specs.Scripts.{RunsLine, RunsLines, RunsRead, RunsCommand, none, next}
@@ -53,9 +53,9 @@ Linked n (it ∷ more) = (it.heard ≡ n) × Linked (max n it.commit) more
 abbrev pub Keeps : ℕ → Given → Type 0
 Keeps n g = Hears (newest_after n g.shown) g.session × Linked n g.shown
 
-connected_keeps : (n : ℕ) (role : List ℕ) (came : Result Ticket Refusal) → Keeps n (connected role came)
-connected_keeps n role (Ok ticket) = (tt, tt)
-connected_keeps n role (Err why) = (tt, tt)
+connected_keeps : (n : ℕ) (ended : Option Part) (role : List ℕ) (came : Result Ticket Refusal) → Keeps n (connected ended role came)
+connected_keeps n ended role (Ok ticket) = (tt, tt)
+connected_keeps n ended role (Err why) = (tt, tt)
 
 begun_keeps : (n : ℕ) (session : Session) (mode : Mode) (came : Result Ticket Refusal) → HearsIn n session.block → Keeps n (begun n session mode came)
 begun_keeps n session mode (Ok ticket) h = (refl, tt)
@@ -92,7 +92,7 @@ given_as_keeps n None asked came h = (tt, tt)
 
 given_keeps : (n : ℕ) (session : Option Session) (request : Request) (came : Came) → Hears n session → Keeps n (given n session request came)
 given_keeps n session (q.Nothing refusal) came h = (h, tt)
-given_keeps n session (q.Connect role) came h = connected_keeps n role came.begin
+given_keeps n session (q.Connect role) came h = connected_keeps n (open_part session) role came.begin
 given_keeps n session (q.Ask asked) came h = given_as_keeps n session asked came h
 
 pub newest_append : (n : ℕ) (xs ys : List Shown) → newest_after n (xs ++ ys) ≡ newest_after (newest_after n xs) ys
@@ -125,7 +125,7 @@ executes_keeps k old new x y command answer executes hears linked newest =
     let came : Came = executes.carries.came in
     let g : Given = given old.newest x executes.request came in
     let keeps : Keeps old.newest g = given_keeps old.newest x executes.request came hears in
-    let is : new ≡ noted old g.shown = executes.carries.notes in
+    let is : new ≡ noted_given old g = executes.carries.notes in
     let more : Linked (newest_after k old.shown) g.shown = subst (λ (n : ℕ). Linked n g.shown) newest keeps.1 in (
       subst (λ (n : Notes). Hears n.newest y) (sym is) (subst (λ (z : Option Session). Hears (newest_after old.newest g.shown) z) (sym executes.carries.becomes) keeps.0),
       subst (λ (n : Notes). Linked k n.shown) (sym is) (linked_append k old.shown g.shown linked more),
@@ -174,7 +174,8 @@ read_behind : (name : List ℕ) (read : Line) (script after : Script) (written :
 read_behind name l.Skipped script after written under runs b = subst (λ (s : Script). Behind name s) (sym runs.1) b
 read_behind name l.Phase script after written under runs b = subst (λ (s : Script). Behind name s) (sym runs.1) b
 read_behind name (l.Command label command) script after written under runs b =
-    command_behind name command.now runs.answer script after (subst (λ (z : List ℕ). AnswersUnder script z command.now runs.answer after) under runs.answers) b
+    let behind = command_behind name command.now runs.answer script runs.behind (subst (λ (z : List ℕ). AnswersUnder script z command.now runs.answer runs.behind) under runs.answers) b in
+    subst (λ (s : Script). Behind name s) (sym runs.told) (record { come = behind.come; linked = behind.linked; newest = behind.newest })
 read_behind name l.Unlabelled script after written under runs b = subst (λ (s : Script). Behind name s) (sym runs.1) b
 
 lines_behind : (name : List ℕ) (lines : List (List ℕ)) (script after : Script) (written : List ℕ) → All (IsUnder name) lines → RunsLines lines script written after → Behind name script → Behind name after
@@ -183,8 +184,8 @@ lines_behind name lines script after written under (next {line = line} {lines = 
     lines_behind name more m z v (All-tail (IsUnder name) line more under) rest
     (read_behind name runs.read s m w (All-head (IsUnder name) line more under runs.read runs.is_read) runs.runs b)
 
-opening_behind : (terse : Bool) (name : List ℕ) → Behind name (opening_script terse)
-opening_behind terse name = record { come = inl refl; linked = tt; newest = refl }
+opening_behind : (terse keeps : Bool) (name : List ℕ) → Behind name (opening_script terse keeps)
+opening_behind terse keeps name = record { come = inl refl; linked = tt; newest = refl }
 
 -- ---- records in a row
 
@@ -328,7 +329,7 @@ ran_alone history shown explained records linked =
     explains_alone history shown 0 opening row (subst (λ (n : ℕ). Explains history (row_from 0 n) opening) records.count (explained (row_from 0 (length history)) order))
 
 -- a script of one label
-pub one_label : (terse : Bool) (history : List Record) (lines : List (List ℕ)) (name written : List ℕ) (after : Script) → ((order : List ℕ) → IsOrder (history_by history) order → Explains history order opening) → AreTheRecords history after.notes.shown → RunsLines lines (opening_script terse) written after → All (IsUnder name) lines → AreAlone opening after.notes.shown
-one_label terse history lines name written after explained records runs under =
-    let b = lines_behind name lines (opening_script terse) after written under runs (opening_behind terse name) in
+pub one_label : (terse keeps : Bool) (history : List Record) (lines : List (List ℕ)) (name written : List ℕ) (after : Script) → ((order : List ℕ) → IsOrder (history_by history) order → Explains history order opening) → AreTheRecords history after.notes.shown → RunsLines lines (opening_script terse keeps) written after → All (IsUnder name) lines → AreAlone opening after.notes.shown
+one_label terse keeps history lines name written after explained records runs under =
+    let b = lines_behind name lines (opening_script terse keeps) after written under runs (opening_behind terse keeps name) in
     ran_alone history after.notes.shown explained records b.linked

@@ -1,12 +1,12 @@
 -- What a commit adds to what a caller was shown.
-use Rattle.std.proofs.Common.{◌≡◌, ℕ, max, ◌+◌, ◌≤◌, ◌<◌, ◌==◌, Bool, true, List, [], ◌∷◌, ◌++◌, length, All, MatchBool, if◌then◌else◌, refl, sym, ap, subst, ◌∙◌, arith, eq-eqb, length-append}
+use Rattle.std.proofs.Common.{◌≡◌, ℕ, max, ◌+◌, ◌≤◌, ◌<◌, ◌==◌, Bool, true, List, [], ◌∷◌, ◌++◌, length, All, MatchBool, Option, if◌then◌else◌, refl, sym, ap, subst, ◌∙◌, arith, eq-eqb, length-append}
 use Rattle.std.proofs.lemmas.List.Elements.{All-append, All-cons, All-nil, All-weaker}
 use Rattle.rls_engine.specs.rls_core.specs.Records.{Record}
 use Rattle.rls_engine.specs.Stands.{Stand}
 use Rattle.rls_engine.specs.Views.{Proof, Standing, Watch}
 use Rattle.rls_engine.specs.Knows.{Learns, spent}
 use Rattle.rls_engine.specs.Drafts.{IsReceiptOf}
-use Rattle.rls_session.specs.Parts.{Block, Notes, Shown, noted, part_of}
+use Rattle.rls_session.specs.Parts.{Block, Notes, Part, Shown, Tried, noted, part_of}
 use Rattle.rls_session.specs.Blocks.{shows}
 
 -- a fresh receipt of the tag is learnt, and counts
@@ -24,13 +24,13 @@ kept_is heard role stand r left place entry spent_is number there =
     λ i. record { heard = heard; commit = number_is i; part = part_of (entry_is i) }
 
 -- a commit is noted
-pub commit_noted : (tag heard : ℕ) (role : List ℕ) (stand : Stand) (watch new : Watch) (r left : Proof) (place : Standing) (kept room pushed : List Shown) (terse : Bool) → IsReceiptOf tag stand r → tag ≡ watch.tag → Learns watch r new left → place.number ≡ left.number → place.entry ≡ left.entry → room ≡ kept → pushed ≡ room ++ record { heard = heard; commit = place.number; part = part_of place.entry } ∷ []
-    → record { tag = new.tag; newest = new.number; told = new.told; shown = pushed; terse = terse } ≡ noted (record { tag = watch.tag; newest = watch.number; told = watch.told; shown = kept; terse = terse }) (shows (record { heard = heard; role = role; part = part_of stand.running.so_far }) r.number ∷ [])
-commit_noted tag heard role stand watch new r left place kept room pushed terse receipt same learns number there room_is pushed_is =
+pub commit_noted : (tag heard : ℕ) (role : List ℕ) (stand : Stand) (watch new : Watch) (r left : Proof) (place : Standing) (kept room pushed : List Shown) (terse : Bool) (ended : Option Part) (tried : Option (List Tried)) → IsReceiptOf tag stand r → tag ≡ watch.tag → Learns watch r new left → place.number ≡ left.number → place.entry ≡ left.entry → room ≡ kept → pushed ≡ room ++ record { heard = heard; commit = place.number; part = part_of place.entry } ∷ []
+    → record { tag = new.tag; newest = new.number; told = new.told; shown = pushed; terse = terse; ended = ended; tried = tried } ≡ noted (record { tag = watch.tag; newest = watch.number; told = watch.told; shown = kept; terse = terse; ended = ended; tried = tried }) (shows (record { heard = heard; role = role; part = part_of stand.running.so_far }) r.number ∷ [])
+commit_noted tag heard role stand watch new r left place kept room pushed terse ended tried receipt same learns number there room_is pushed_is =
     let both = learnt watch new r left learns (receipt.tag_is ∙ same) receipt.fresh in
     let one = kept_is heard role stand r left place receipt.entry both.1 number there in
     let all : pushed ≡ kept ++ shows (record { heard = heard; role = role; part = part_of stand.running.so_far }) r.number ∷ [] = pushed_is ∙ (ap (λ (xs : List Shown). xs ++ record { heard = heard; commit = place.number; part = part_of place.entry } ∷ []) room_is ∙ ap (λ (x : Shown). kept ++ x ∷ []) one) in
-    λ i. record { tag = (both.0 i).tag; newest = (both.0 i).number; told = (both.0 i).told; shown = all i; terse = terse }
+    λ i. record { tag = (both.0 i).tag; newest = (both.0 i).number; told = (both.0 i).told; shown = all i; terse = terse; ended = ended; tried = tried }
 
 -- and then as many receipts count as are kept, of commits that are known
 pub commit_kept : (tag heard : ℕ) (stand : Stand) (watch new : Watch) (r left : Proof) (place : Standing) (kept room pushed : List Shown) → IsReceiptOf tag stand r → tag ≡ watch.tag → Learns watch r new left → place.number ≡ left.number → room ≡ kept → pushed ≡ room ++ record { heard = heard; commit = place.number; part = part_of place.entry } ∷ [] → (watch.told ≡ length kept) × All (λ (it : Shown). it.commit ≤ watch.number) kept

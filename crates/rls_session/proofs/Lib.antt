@@ -10,4 +10,5 @@ pub mod RuleLemmas
 pub mod ScriptLemmas
 pub mod TextLemmas
 pub mod TrackLemmas
+pub mod TriedLemmas
 pub mod WorkersCross

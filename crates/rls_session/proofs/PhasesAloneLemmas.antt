@@ -12,9 +12,10 @@ use Rattle.rls_script.specs.Plans.{Plan, ReadsLines, Task, opening_plan, phases_
 use Rattle.rls_session.specs.Alone.{AreAlone, HasOneLabel}
 use Rattle.rls_session.specs.Books.{AreTheRecords}
 use Rattle.rls_session.specs.Parts.{Notes, Session, Shown, alike, joined, newest_after}
-use Rattle.rls_session.specs.Phases.{Seat, Stage, Track, Follows, Passes, RunsAs, RunsIf, RunsPhases, RunsServed, RunsTask, enters, notes_after, opening_seat, opening_seats, opening_stage, seats_of, none, next}
+use Rattle.rls_session.specs.Phases.{Seat, Stage, Track, Follows, Passes, RunsAs, RunsIf, RunsPhases, RunsServed, RunsTask, enters, notes_after, opening_seat, opening_seats, opening_stage, seats_of, sessions_at, none, next}
 use Rattle.rls_session.specs.Texts.{LeadsTo}
 use Rattle.rls_session.proofs.AloneLemmas.{Hears, Linked, executes_keeps, linked_append, newest_append, ran_alone}
+use Rattle.rls_session.proofs.TriedLemmas.{ended_shown, none_joined}
 use Rattle.rls_session.proofs.NamesLemmas.{AreNames, IsOther, names_of, nobody, unlabelled, alone, before, behind}
 
 -- ---- the lines of a label in a phase
@@ -100,7 +101,7 @@ nothing_joined : (all start : Notes) → start.newest ≤ all.newest → joined 
 nothing_joined all start le =
     let newest : max all.newest start.newest ≡ all.newest = omega (arith, le) in
     let told : all.told + 0 ≡ all.told = omega arith in
-    λ i. record { tag = all.tag; newest = newest i; told = told i; shown = append-nil all.shown i; terse = all.terse }
+    λ i. record { tag = all.tag; newest = newest i; told = told i; shown = append-nil all.shown i; terse = all.terse; ended = all.ended; tried = none_joined all.tried start.tried i }
 
 quiet_join : (start all : Notes) (tasks : List Task) (seats : List Seat) (tracks : List Track) → FollowEach start tasks seats tracks → AreQuiet seats → start.newest ≤ all.newest → (notes_after all tracks ≡ all) × AreQuiet (seats_of tracks)
 quiet_join start all tasks [] [] follows quiet le = (refl, tt)
@@ -154,10 +155,10 @@ labels_turn start tasks (seat ∷ seats) (track ∷ tracks) follows hears turn =
 
 -- ---- all phases
 
-phases_turn : (terse : Bool) (names : List (List ℕ)) (phases : List (List Task)) (written : List ℕ) (stage : Stage) → RunsPhases terse names phases written stage → OneHears 0 (opening_stage terse names).seats → InTurn stage.notes × OneHears stage.notes.newest stage.seats
-phases_turn terse names phases written stage none hears = (record { linked = tt; newest = refl }, hears)
-phases_turn terse names phases written stage (next {phases = earlier} {tasks = tasks} {written = w} {more = v} {stage = x} {after = y} runs passes) hears =
-    let so_far = phases_turn terse names earlier w x runs hears in
+phases_turn : (terse keeps : Bool) (names : List (List ℕ)) (phases : List (List Task)) (written : List ℕ) (stage : Stage) → RunsPhases terse keeps names phases written stage → OneHears 0 (opening_stage terse keeps names).seats → InTurn stage.notes × OneHears stage.notes.newest stage.seats
+phases_turn terse keeps names phases written stage none hears = (record { linked = tt; newest = refl }, hears)
+phases_turn terse keeps names phases written stage (next {phases = earlier} {tasks = tasks} {written = w} {more = v} {stage = x} {after = y} runs passes) hears =
+    let so_far = phases_turn terse keeps names earlier w x runs hears in
     let each = each_of x.notes tasks x.seats passes.tracks passes.each.count passes.each.follows in
     let passed = labels_turn x.notes tasks x.seats passes.tracks each so_far.1 so_far.0 in
     subst (λ (z : Stage). InTurn z.notes × OneHears z.notes.newest z.seats) (sym passes.becomes) passed
@@ -166,15 +167,16 @@ phases_turn terse names phases written stage (next {phases = earlier} {tasks = t
 mark_quiet : (name : List ℕ) (b : Bool) → bytes_eq name (codes "?") ≡ b → b ≡ false → IsQuiet (standing_of (place_in (name ∷ codes "?" ∷ []) (codes "?")) 1)
 mark_quiet name b is apart = subst (λ (c : Bool). IsQuiet (standing_of (cond (not c) (1 + 0) 0) 1)) (sym (is ∙ apart)) tt
 
-seats_hear : (terse : Bool) (name : List ℕ) (names : List (List ℕ)) → AreNames name names → OneHears 0 (opening_stage terse names).seats
-seats_hear terse name names nobody = tt
-seats_hear terse name names unlabelled = inr (tt, tt)
-seats_hear terse name names (alone o) = inr (tt, tt)
-seats_hear terse name names (before o) = inr (tt, (mark_quiet name false o.there refl, tt))
-seats_hear terse name names (behind o) = inl (tt, inr (tt, tt))
+seats_hear : (terse keeps : Bool) (name : List ℕ) (names : List (List ℕ)) → AreNames name names → OneHears 0 (opening_stage terse keeps names).seats
+seats_hear terse keeps name names nobody = tt
+seats_hear terse keeps name names unlabelled = inr (tt, tt)
+seats_hear terse keeps name names (alone o) = inr (tt, tt)
+seats_hear terse keeps name names (before o) = inr (tt, (mark_quiet name false o.there refl, tt))
+seats_hear terse keeps name names (behind o) = inl (tt, inr (tt, tt))
 
-pub one_label_in_phases : (terse : Bool) (history : List Record) (script : List ℕ) (plan : Plan) (written : List ℕ) (notes : Notes) → ((order : List ℕ) → IsOrder (history_by history) order → Explains history order opening) → AreTheRecords history notes.shown → ReadsLines (lines script) opening_plan plan → LeadsTo terse plan written notes → HasOneLabel script → AreAlone opening notes.shown
-one_label_in_phases terse history script plan written notes explained records reads leads one =
+pub one_label_in_phases : (terse keeps : Bool) (history : List Record) (script : List ℕ) (plan : Plan) (written : List ℕ) (notes : Notes) → ((order : List ℕ) → IsOrder (history_by history) order → Explains history order opening) → AreTheRecords history notes.shown → ReadsLines (lines script) opening_plan plan → LeadsTo terse keeps plan written notes → HasOneLabel script → AreAlone opening notes.shown
+one_label_in_phases terse keeps history script plan written notes explained records reads leads one =
     let names : AreNames one.name plan.names = names_of one.name (lines script) opening_plan plan one.under reads nobody in
-    let turn = phases_turn terse plan.names (phases_of plan) written (record { seats = leads.seats; notes = notes }) leads.runs (seats_hear terse one.name plan.names names) in
-    ran_alone history notes.shown explained records turn.0.linked
+    let turn = phases_turn terse keeps plan.names (phases_of plan) written (record { seats = leads.seats; notes = leads.behind }) leads.runs (seats_hear terse keeps one.name plan.names names) in
+    let shown : notes.shown ≡ leads.behind.shown = ap (λ (n : Notes). n.shown) leads.ended ∙ ended_shown (sessions_at leads.seats) leads.behind in
+    ran_alone history notes.shown explained records (subst (λ (xs : List Shown). Linked 0 xs) (sym shown) turn.0.linked)

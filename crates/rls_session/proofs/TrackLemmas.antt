@@ -9,7 +9,8 @@ use Rattle.rls_script.specs.declared.answer.Answer.TheVariants as a
 use Rattle.rls_script.specs.{Rendering.answer_text, declared.answer.Answer.Answer}
 use Rattle.rls_script.specs.Streams.{GrewBy}
 use Rattle.rls_script.specs.Plans.{Task, place_in, standing_of, refusal_of}
-use Rattle.rls_session.specs.{Blocks.Executes, Parts.Notes, Parts.Session, Parts.joined}
+use Rattle.rls_session.specs.{Blocks.Executes, Parts.Notes, Parts.Session, Parts.joined, Parts.with_end}
+use Rattle.rls_session.specs.Scripts.{end_by}
 use Rattle.rls_session.specs.Phases.{Seat, Stage, Track, AreLate, EachFollows, Follows, Passes, RunsPhases, RunsServed, RunsTask, enters, late_line, late_text, notes_after, opening_seat, opening_seats, opening_stage, seats_of, texts_of, none, next}
 use Rattle.rls_session.specs.Works.{Work, IsRan, entered, finished, tracks_of, work_seats}
 
@@ -22,15 +23,16 @@ pub follows_at : (from : Track) (tasks : List Task) (i : ℕ) (task : Task) (old
 follows_at from tasks i task old new within is follows runs = follows_more from (take i tasks) (take (i + 1) tasks) task old new follows runs (take_more tasks i task within ∙ ap (λ (t : Task). take i tasks ++ t ∷ []) (sym is))
 
 -- a command and its answer
-pub served : {E : Type 0} (r : Result (Unit {0}) E) (terse : Bool) (old new : Track) (command : List ℕ) (answer : Answer) (notes : Notes) (session : Option Session) → terse ≡ old.notes.terse → Executes old.notes old.seat.session command answer notes session → OnOk r (new ≡ record { seat = record { place = old.seat.place; name = old.seat.name; standing = old.seat.standing; session = session }; notes = notes; written = old.written ++ answer_text terse old.seat.name answer }) → OnOk r (RunsServed old command new)
-served (Ok x) terse old new command answer notes session how executes becomes = record {
+pub served : {E : Type 0} (r : Result (Unit {0}) E) (terse : Bool) (old new : Track) (command : List ℕ) (answer : Answer) (notes told : Notes) (session : Option Session) → terse ≡ old.notes.terse → Executes old.notes old.seat.session command answer notes session → told ≡ with_end (end_by answer) notes → OnOk r (new ≡ record { seat = record { place = old.seat.place; name = old.seat.name; standing = old.seat.standing; session = session }; notes = told; written = old.written ++ answer_text terse old.seat.name answer }) → OnOk r (RunsServed old command new)
+served (Ok x) terse old new command answer notes told session how executes tells becomes = record {
   answer = answer;
   session = session;
   notes = notes;
   executes = executes;
-  becomes = becomes ∙ ap (λ (b : Bool). record { seat = record { place = old.seat.place; name = old.seat.name; standing = old.seat.standing; session = session }; notes = notes; written = old.written ++ answer_text b old.seat.name answer }) how;
+  becomes = becomes ∙ ap (λ (b : Bool). record { seat = record { place = old.seat.place; name = old.seat.name; standing = old.seat.standing; session = session }; notes = told; written = old.written ++ answer_text b old.seat.name answer }) how
+      ∙ ap (λ (n : Notes). record { seat = record { place = old.seat.place; name = old.seat.name; standing = old.seat.standing; session = session }; notes = n; written = old.written ++ answer_text old.notes.terse old.seat.name answer }) tells;
 }
-served (Err e) terse old new command answer notes session how executes becomes = tt
+served (Err e) terse old new command answer notes told session how executes tells becomes = tt
 
 -- each label of a phase
 pub each_follows : (notes : Notes) (ws us vs : List Work) (tasks : List Task) → us ≡ map (entered notes) ws → length vs ≡ length us → ((i : ℕ) (d : Work) → i < length us → IsRan (slice_index_or us i d) tasks (slice_index_or vs i d)) → ((i : ℕ) (d : Work) → i < length vs → (slice_index_or vs i d).failed ≡ false) → EachFollows (record { seats = work_seats ws; notes = notes }) tasks (tracks_of vs)
@@ -83,12 +85,12 @@ phase_passes (Ok x) names notes notes_then ws us vs xs tasks before middle now i
 phase_passes (Err e) names notes notes_then ws us vs xs tasks before middle now is same ran whole left is_notes text late = tt
 
 -- before the first phase
-pub phases_opening : (terse : Bool) (names : List (List ℕ)) (stage : Stage) (now : List ℕ) → stage ≡ opening_stage terse names → GrewBy now now (λ written. RunsPhases terse names [] written stage)
-phases_opening terse names stage now is = record { more = []; grew = sym (append-nil now); fact = rw is none }
+pub phases_opening : (terse keeps : Bool) (names : List (List ℕ)) (stage : Stage) (now : List ℕ) → stage ≡ opening_stage terse keeps names → GrewBy now now (λ written. RunsPhases terse keeps names [] written stage)
+phases_opening terse keeps names stage now is = record { more = []; grew = sym (append-nil now); fact = rw is none }
 
 -- one phase more
-pub phases_more : (terse : Bool) (names : List (List ℕ)) (phases more : List (List Task)) (tasks : List Task) (stage after : Stage) (start before now : List ℕ) → GrewBy start before (λ written. RunsPhases terse names phases written stage) → GrewBy before now (λ written. Passes names stage tasks written after) → more ≡ phases ++ tasks ∷ [] → GrewBy start now (λ written. RunsPhases terse names more written after)
-phases_more terse names phases more tasks stage after start before now runs passes is =
+pub phases_more : (terse keeps : Bool) (names : List (List ℕ)) (phases more : List (List Task)) (tasks : List Task) (stage after : Stage) (start before now : List ℕ) → GrewBy start before (λ written. RunsPhases terse keeps names phases written stage) → GrewBy before now (λ written. Passes names stage tasks written after) → more ≡ phases ++ tasks ∷ [] → GrewBy start now (λ written. RunsPhases terse keeps names more written after)
+phases_more terse keeps names phases more tasks stage after start before now runs passes is =
     record {
       more = runs.more ++ passes.more;
       grew = passes.grew ∙ (ap (λ m. m ++ passes.more) runs.grew ∙ append_assoc start runs.more passes.more);

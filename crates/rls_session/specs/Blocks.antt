@@ -16,7 +16,7 @@ use Rattle.rls_script.specs.declared.answer.Answer.TheVariants as a
 use Rattle.rls_script.specs.declared.requesting.Ask.TheVariants as ask
 use Rattle.rls_script.specs.declared.requesting.Request.TheVariants as q
 use Rattle.rls_script.specs.declared.requesting.Status.TheVariants as st
-use Rattle.rls_session.specs.{Parts.Part, Parts.Block, Parts.Session, Parts.Shown, Parts.Notes, Parts.noted}
+use Rattle.rls_session.specs.{Parts.Part, Parts.Block, Parts.Session, Parts.Shown, Parts.Notes, Parts.noted, Parts.with_ended}
 
 -- how a session stands: its block is over, or open, or it has none
 abbrev pub status_in : Bool → Option Block → Status
@@ -69,15 +69,25 @@ pub record CanCome (login : Option (List ℕ)) (came : Came) : Type 0 where
   pub post : IfErr came.post IsConflict
   pub commit : IfErr came.commit IsConflict
 
--- what a command gives
+-- what a command gives; and of the transaction that it ended without a commit, if it did
 pub record Given : Type 0 where
   pub answer : Answer
   pub session : Option Session
   pub shown : List Shown
+  pub ended : Option Part
 
--- this answer, with this session; no transaction is shown as committed
+-- this answer, with this session; no transaction is shown as committed, and none ends
 abbrev pub says : Answer → Session → Given
-says answer session = record { answer = answer; session = Some session; shown = [] }
+says answer session = record { answer = answer; session = Some session; shown = []; ended = None }
+
+-- the same where a transaction ends without a commit
+abbrev pub ends : Answer → Session → Option Part → Given
+ends answer session part = record { answer = answer; session = Some session; shown = []; ended = part }
+
+-- the open block's
+abbrev pub open_part : Option Session → Option Part
+open_part None = None
+open_part (Some session) = option_map (λ block. block.part) session.block
 
 -- outside a block, where the next transaction begins as this role
 abbrev pub outside : (login role : List ℕ) → Session
@@ -111,10 +121,10 @@ with_statement block asked effect = record {
 abbrev pub shows : Block → ℕ → Shown
 shows block number = record { heard = block.heard; commit = number; part = block.part }
 
--- a connect; refused, nobody is connected
-abbrev pub connected : List ℕ → Result Ticket Refusal → Given
-connected role (Ok ticket) = says (a.Replied Tag.Connect p.Done) (outside role role)
-connected role (Err refusal) = record { answer = a.Refused refusal; session = None; shown = [] }
+-- a connect, which ends an open block; refused, nobody is connected
+abbrev pub connected : Option Part → List ℕ → Result Ticket Refusal → Given
+connected ended role (Ok ticket) = ends (a.Replied Tag.Connect p.Done) (outside role role) ended
+connected ended role (Err refusal) = record { answer = a.Refused refusal; session = None; shown = []; ended = ended }
 
 -- BEGIN; refused, the session stays as it is
 abbrev pub begun : (newest : ℕ) → Session → Mode → Result Ticket Refusal → Given
@@ -124,27 +134,28 @@ begun newest session mode (Err refusal) = says (a.Refused refusal) session
 -- a statement in a block, which goes on behind a statement that can't be done, and is over behind 40001
 abbrev pub posted : Session → Block → Statement → Result Effect Refusal → Given
 posted session block asked (Ok effect) = says (answer_to (tag_of asked) effect) (inside session.login session.role (with_statement block asked effect))
-posted session block asked (Err refusal) = says (a.Refused refusal) (over_in session.login session.role)
+posted session block asked (Err refusal) = ends (a.Refused refusal) (over_in session.login session.role) (Some block.part)
 
 -- COMMIT, from which on the block's role lasts; refused, the session is outside, in the role that it had before the block
 abbrev pub committed : Session → Block → Result ℕ Refusal → Given
-committed session block (Ok number) = record { answer = a.Replied Tag.Commit p.Done; session = Some (outside session.login block.role); shown = shows block number ∷ [] }
-committed session block (Err refusal) = says (a.Refused refusal) (outside session.login session.role)
+committed session block (Ok number) = record { answer = a.Replied Tag.Commit p.Done; session = Some (outside session.login block.role); shown = shows block number ∷ []; ended = None }
+committed session block (Err refusal) = ends (a.Refused refusal) (outside session.login session.role) (Some block.part)
 
 -- ROLLBACK, and COMMIT of a block that is over: the role that the block set is gone with it
 abbrev pub rolled_back : Session → Given
-rolled_back session = says (a.Replied Tag.Rollback p.Done) (outside session.login session.role)
+rolled_back session = ends (a.Replied Tag.Rollback p.Done) (outside session.login session.role) (open_part (Some session))
 
 -- a statement outside a block: a transaction that may write, answered once it is committed, also where the statement can't be done;
--- 40001 is answered, and the statement isn't run again
+-- 40001 is answered, the transaction ends without the statement, and this isn't run again
 abbrev pub ran : (newest : ℕ) → Session → Statement → Result Ticket Refusal → Result Effect Refusal → Result ℕ Refusal → Given
 ran newest session asked (Err refusal) post commit = says (a.Refused refusal) session
-ran newest session asked (Ok ticket) (Err refusal) commit = says (a.Refused refusal) session
-ran newest session asked (Ok ticket) (Ok effect) (Err refusal) = says (a.Refused refusal) session
+ran newest session asked (Ok ticket) (Err refusal) commit = ends (a.Refused refusal) session (Some (started newest (begin_of session m.Write) ticket).part)
+ran newest session asked (Ok ticket) (Ok effect) (Err refusal) = ends (a.Refused refusal) session (Some (started newest (begin_of session m.Write) ticket).part)
 ran newest session asked (Ok ticket) (Ok effect) (Ok number) = record {
   answer = answer_to (tag_of asked) effect;
   session = Some (outside session.login (role_after session.role effect));
   shown = shows (with_statement (started newest (begin_of session m.Write) ticket) asked effect) number ∷ [];
+  ended = None;
 }
 
 -- in the session's open block; without one there is none in progress
@@ -163,13 +174,17 @@ given_in newest session ask.Rollback came = rolled_back session
 -- the same, in the label's session, if it has one
 abbrev pub given_as : (newest : ℕ) → Option Session → Ask → Came → Given
 given_as newest (Some session) asked came = given_in newest session asked came
-given_as newest None asked came = record { answer = a.Refused (Refusal.NoLogin None); session = None; shown = [] }
+given_as newest None asked came = record { answer = a.Refused (Refusal.NoLogin None); session = None; shown = []; ended = None }
 
 -- a command by what it requests
 abbrev pub given : (newest : ℕ) → Option Session → Request → Came → Given
-given newest session (q.Nothing refusal) came = record { answer = a.Refused refusal; session = session; shown = [] }
-given newest session (q.Connect role) came = connected role came.begin
+given newest session (q.Nothing refusal) came = record { answer = a.Refused refusal; session = session; shown = []; ended = None }
+given newest session (q.Connect role) came = connected (open_part session) role came.begin
 given newest session (q.Ask asked) came = given_as newest session asked came
+
+-- what it shows is noted
+abbrev pub noted_given : Notes → Given → Notes
+noted_given notes it = with_ended (noted notes it.shown) it.ended
 
 -- what came of a request, and what it is answered, with what was shown and the label's session then
 pub record Carries (old : Notes) (session : Option Session) (request : Request) (answer : Answer) (new : Notes) (session_then : Option Session) : Type 0 where
@@ -177,7 +192,7 @@ pub record Carries (old : Notes) (session : Option Session) (request : Request) 
   pub can : CanCome (login_of session request) came
   pub answered : answer ≡ (given old.newest session request came).answer
   pub becomes : session_then ≡ (given old.newest session request came).session
-  pub notes : new ≡ noted old (given old.newest session request came).shown
+  pub notes : new ≡ noted_given old (given old.newest session request came)
 
 -- a command under its label, a `\connect` or another
 pub record Executes (old : Notes) (session : Option Session) (command : List ℕ) (answer : Answer) (new : Notes) (session_then : Option Session) : Type 0 where

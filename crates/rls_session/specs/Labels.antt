@@ -1,5 +1,5 @@
 -- The labels of a script: each has a session of its own, and at most 64 have one.
-use Rattle.std.specs.Prelude.{◌≡◌, ℕ, ◌+◌, nat_lt, List, [], ◌∷◌, ◌++◌, Bool, true, false, take, drop, slice_get, Option, Some, None, refl}
+use Rattle.std.specs.Prelude.{◌≡◌, ℕ, ◌+◌, nat_lt, List, [], ◌∷◌, ◌++◌, Bool, true, false, take, drop, map, slice_get, Option, Some, None, refl}
 use Rattle.std.specs.Coded.{Coded, code_by, coded×, coded_list, coded_option, coded_ℕ}
 use Rattle.std.specs.List.{position_or_len}
 use Rattle.std.specs.Str.{bytes_eq}
@@ -7,7 +7,8 @@ use Rattle.rls_value.specs.declared.refusal.Refusal.TheVariants as r
 use Rattle.rls_value.specs.declared.refusal.Limit.TheVariants as l
 use Rattle.rls_script.specs.declared.answer.Answer.{Answer}
 use Rattle.rls_script.specs.declared.answer.Answer.TheVariants as a
-use Rattle.rls_session.specs.{Blocks.Executes, Parts.Notes, Parts.Session, Parts.session_code}
+use Rattle.rls_session.specs.declared.tried.End.TheVariants as end
+use Rattle.rls_session.specs.{Blocks.Executes, Blocks.open_part, Parts.Notes, Parts.Session, Parts.session_code, Parts.tried_first, Parts.with_end, Parts.with_ended}
 
 -- a label that has come, with its session where somebody is connected under it
 pub record Entry : Type 0 where
@@ -24,8 +25,8 @@ pub record Script : Type 0 where
   pub notes : Notes
 
 -- before the first line no label has come
-abbrev pub opening_script : (terse : Bool) → Script
-opening_script terse = record { labels = []; notes = record { tag = 1; newest = 0; told = 0; shown = []; terse = terse } }
+abbrev pub opening_script : (terse keeps : Bool) → Script
+opening_script terse keeps = record { labels = []; notes = record { tag = 1; newest = 0; told = 0; shown = []; terse = terse; ended = None; tried = tried_first keeps } }
 
 -- the place of the label in the order in which they came; one that hasn't come is behind them all
 abbrev pub place_of : List Entry → List ℕ → ℕ
@@ -58,3 +59,12 @@ AnswersIf false script name command answer after = (answer ≡ a.Refused (r.Limi
 -- the answer to a command under a label
 abbrev pub AnswersUnder : Script → List ℕ → List ℕ → Answer → Script → Type 0
 AnswersUnder script name command answer after = AnswersIf (nat_lt (place_of script.labels name) 64) script name command answer after
+
+-- at the end of a script the open blocks of these sessions end, one after another
+abbrev pub ended_all : List (Option Session) → Notes → Notes
+ended_all [] notes = notes
+ended_all (session ∷ more) notes = ended_all more (with_end end.Script (with_ended notes (open_part session)))
+
+-- the labels' sessions
+abbrev pub sessions_of : List Entry → List (Option Session)
+sessions_of labels = map (λ label. label.session) labels

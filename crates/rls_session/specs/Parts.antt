@@ -1,13 +1,18 @@
 -- What a session knows of its transactions.
-use Rattle.std.specs.Prelude.{ℕ, max, Bool, List, [], ◌∷◌, ◌++◌, length, ◌+◌, Option, refl}
+use Rattle.std.specs.Prelude.{ℕ, max, Bool, true, false, List, [], ◌∷◌, ◌++◌, length, map, ◌+◌, Option, Some, None, option_map, is_some, refl}
 use Rattle.std.specs.Coded.{Coded, code_by, coded×, coded_list, coded_option, coded_bool, coded_ℕ}
 use Rattle.rls_statement.specs.declared.statement.Statement.{Statement}
 use Rattle.rls_statement.specs.contracts.statement.Statement as statement
 use Rattle.rls_script.specs.rls_guard.specs.declared.effect.Effect.{Effect}
 use Rattle.rls_script.specs.rls_guard.specs.contracts.effect.Effect as effect
 use Rattle.rls_engine.specs.rls_access.specs.Transactions.{Begin}
+use Rattle.rls_engine.specs.rls_core.specs.declared.attempt.Attempt.{Attempt}
+use Rattle.rls_engine.specs.rls_core.specs.Posts.{statement_of, effect_of}
 use Rattle.rls_engine.specs.rls_core.specs.Records.{Record}
 use Rattle.rls_engine.specs.rls_core.specs.Codes.{begin_code}
+use Rattle.rls_session.specs.declared.tried.Attempted.{Attempted}
+use Rattle.rls_session.specs.declared.tried.End.{End}
+use Rattle.rls_session.specs.contracts.tried.End as end_type
 
 -- of a transaction its number, what it began as, how many had committed then, and its statements with what each came to: replies,
 -- refusals, decisions on rows, changes
@@ -21,6 +26,22 @@ pub record Part : Type 0 where
 -- that part of a record
 abbrev pub part_of : Record → Part
 part_of it = record { txn = it.txn; begin = it.begin; snap = it.snap; statements = it.statements; effects = it.effects }
+
+-- the same part of an attempt
+abbrev pub part_by : Attempt → Part
+part_by it = record { txn = it.txn; begin = it.begin; snap = it.snap; statements = map statement_of it.posts; effects = map effect_of it.posts }
+
+-- a transaction that ended without a commit: how, and what of it
+pub record Tried : Type 0 where
+  pub end : End
+  pub part : Part
+
+abbrev pub tried_by : Attempted → Tried
+tried_by it = record { end = it.end; part = part_by it.attempt }
+
+-- without its statements
+abbrev pub unanswered : Part → Part
+unanswered part = record { txn = part.txn; begin = part.begin; snap = part.snap; statements = []; effects = [] }
 
 -- an open block: the newest commit that was shown before the line that began it, its current role, and its transaction
 pub record Block : Type 0 where
@@ -44,13 +65,16 @@ pub record Shown : Type 0 where
   pub part : Part
 
 -- what a caller was shown: an engine's tag, the greatest number of a commit, how many receipts count in that knowledge, the
--- transactions that were shown as committed, and whether refusals are told tersely
+-- transactions that were shown as committed, and whether refusals are told tersely; and where transactions that end without a commit are
+-- kept, the one of which it isn't told yet how it ended, and those of which it is
 pub record Notes : Type 0 where
   pub tag : ℕ
   pub newest : ℕ
   pub told : ℕ
   pub shown : List Shown
   pub terse : Bool
+  pub ended : Option Part
+  pub tried : Option (List Tried)
 
 -- the greatest number of a commit, with these
 abbrev pub newest_after : ℕ → List Shown → ℕ
@@ -59,7 +83,7 @@ newest_after newest (it ∷ more) = newest_after (max newest it.commit) more
 
 -- with these behind them
 abbrev pub noted : Notes → List Shown → Notes
-noted notes more = record { tag = notes.tag; newest = newest_after notes.newest more; told = notes.told + length more; shown = notes.shown ++ more; terse = notes.terse }
+noted notes more = record { tag = notes.tag; newest = newest_after notes.newest more; told = notes.told + length more; shown = notes.shown ++ more; terse = notes.terse; ended = notes.ended; tried = notes.tried }
 
 -- the codes of these
 abbrev pub part_code : Coded Part
@@ -78,15 +102,60 @@ session_code =
 abbrev pub shown_code : Coded Shown
 shown_code = code_by (ℕ × (ℕ × Part)) (coded× coded_ℕ (coded× coded_ℕ part_code)) (λ s. (s.heard, (s.commit, s.part))) (λ p. record { heard = p.0; commit = p.1.0; part = p.1.1 }) (λ _. refl)
 
+abbrev pub tried_code : Coded Tried
+tried_code = code_by (End × Part) (coded× end_type.the_row.coded part_code) (λ t. (t.end, t.part)) (λ p. record { end = p.0; part = p.1 }) (λ _. refl)
+
 abbrev pub notes_code : Coded Notes
 notes_code =
-    code_by (ℕ × (ℕ × (ℕ × (List Shown × Bool)))) (coded× coded_ℕ (coded× coded_ℕ (coded× coded_ℕ (coded× (coded_list shown_code) coded_bool))))
-    (λ n. (n.tag, (n.newest, (n.told, (n.shown, n.terse))))) (λ p. record { tag = p.0; newest = p.1.0; told = p.1.1.0; shown = p.1.1.1.0; terse = p.1.1.1.1 }) (λ _. refl)
+    code_by (ℕ × (ℕ × (ℕ × (List Shown × (Bool × (Option Part × Option (List Tried)))))))
+    (coded× coded_ℕ (coded× coded_ℕ (coded× coded_ℕ (coded× (coded_list shown_code) (coded× coded_bool (coded× (coded_option part_code) (coded_option (coded_list tried_code))))))))
+    (λ n. (n.tag, (n.newest, (n.told, (n.shown, (n.terse, (n.ended, n.tried)))))))
+    (λ p. record { tag = p.0; newest = p.1.0; told = p.1.1.0; shown = p.1.1.1.0; terse = p.1.1.1.1.0; ended = p.1.1.1.1.1.0; tried = p.1.1.1.1.1.1 }) (λ _. refl)
 
 -- the same knowledge, where nothing was shown
 abbrev pub alike : Notes → Notes
-alike notes = record { tag = notes.tag; newest = notes.newest; told = 0; shown = []; terse = notes.terse }
+alike notes = record { tag = notes.tag; newest = notes.newest; told = 0; shown = []; terse = notes.terse; ended = None; tried = option_map (λ before. []) notes.tried }
+
+-- the one and then the other, where they are kept
+abbrev pub joined_tried : Option (List Tried) → Option (List Tried) → Option (List Tried)
+joined_tried None other = None
+joined_tried (Some before) None = Some before
+joined_tried (Some before) (Some more) = Some (before ++ more)
 
 -- with all that others show
 abbrev pub joined : Notes → Notes → Notes
-joined notes other = record { tag = notes.tag; newest = max notes.newest other.newest; told = notes.told + other.told; shown = notes.shown ++ other.shown; terse = notes.terse }
+joined notes other = record { tag = notes.tag; newest = max notes.newest other.newest; told = notes.told + other.told; shown = notes.shown ++ other.shown; terse = notes.terse; ended = notes.ended; tried = joined_tried notes.tried other.tried }
+
+-- ---- transactions that ended without a commit
+
+-- whether they are kept
+abbrev pub is_keeping : Notes → Bool
+is_keeping notes = is_some notes.tried
+
+-- at first there are none
+abbrev pub tried_first : Bool → Option (List Tried)
+tried_first true = Some []
+tried_first false = None
+
+-- those that were kept
+abbrev pub tried_of : Option (List Tried) → List Tried
+tried_of None = []
+tried_of (Some tried) = tried
+
+-- this one has ended, of which it isn't told yet how, where such are kept
+abbrev pub ended_then : Option Part → Option (List Tried) → Option Part → Option Part
+ended_then None tried before = before
+ended_then (Some part) None before = before
+ended_then (Some part) (Some tried) before = Some part
+
+abbrev pub with_ended : Notes → Option Part → Notes
+with_ended notes part = record notes { ended = ended_then part notes.tried notes.ended }
+
+-- it is told how it ended
+abbrev pub told_ended : Option Part → End → Option (List Tried) → Option (List Tried)
+told_ended None end tried = tried
+told_ended (Some part) end None = None
+told_ended (Some part) end (Some tried) = Some (tried ++ record { end = end; part = part } ∷ [])
+
+abbrev pub with_end : End → Notes → Notes
+with_end end notes = record notes { ended = None; tried = told_ended notes.ended end notes.tried }

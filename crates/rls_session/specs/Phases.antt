@@ -9,8 +9,9 @@ use Rattle.rls_script.specs.declared.answer.Answer.TheVariants as a
 use Rattle.rls_script.specs.declared.standing.Standing.{Standing}
 use Rattle.rls_script.specs.declared.standing.Standing.TheVariants as s
 use Rattle.rls_script.specs.Plans.{Task, place_in, refusal_of, standing_of}
-use Rattle.rls_session.specs.{Blocks.Executes, Parts.Notes, Parts.Session, Parts.alike, Parts.joined}
+use Rattle.rls_session.specs.{Blocks.Executes, Parts.Notes, Parts.Session, Parts.alike, Parts.joined, Parts.with_end}
 use Rattle.rls_session.specs.Labels.{opening_script}
+use Rattle.rls_session.specs.Scripts.{end_by}
 
 -- a label between phases: its place, its name, its standing, and its session where somebody is connected under it
 pub record Seat : Type 0 where
@@ -35,7 +36,7 @@ pub record RunsServed (old : Track) (command : List ℕ) (new : Track) : Type 0 
   pub session : Option Session
   pub notes : Notes
   pub executes : Executes old.notes old.seat.session command answer notes session
-  pub becomes : new ≡ record { seat = record { place = old.seat.place; name = old.seat.name; standing = old.seat.standing; session = session }; notes = notes; written = old.written ++ answer_text old.notes.terse old.seat.name answer }
+  pub becomes : new ≡ record { seat = record { place = old.seat.place; name = old.seat.name; standing = old.seat.standing; session = session }; notes = with_end (end_by answer) notes; written = old.written ++ answer_text old.notes.terse old.seat.name answer }
 
 -- a line of the label
 abbrev pub RunsAs : Standing → Track → List ℕ → Track → Type 0
@@ -121,10 +122,14 @@ opening_seats names zero = []
 opening_seats names (suc place) = opening_seats names place ++ opening_seat names place ∷ []
 
 -- before the first phase
-abbrev pub opening_stage : (terse : Bool) → List (List ℕ) → Stage
-opening_stage terse names = record { seats = opening_seats names (min (length names) 65); notes = (opening_script terse).notes }
+abbrev pub opening_stage : (terse keeps : Bool) → List (List ℕ) → Stage
+opening_stage terse keeps names = record { seats = opening_seats names (min (length names) 65); notes = (opening_script terse keeps).notes }
+
+-- the labels' sessions
+abbrev pub sessions_at : List Seat → List (Option Session)
+sessions_at seats = map (λ seat. seat.session) seats
 
 -- phases one after another
-pub data RunsPhases (terse : Bool) (names : List (List ℕ)) : List (List Task) → List ℕ → Stage → Type 0 where
-  none : RunsPhases terse names [] [] (opening_stage terse names)
-  next : {phases : List (List Task)} {tasks : List Task} {written more : List ℕ} {stage after : Stage} → RunsPhases terse names phases written stage → Passes names stage tasks more after → RunsPhases terse names (phases ++ tasks ∷ []) (written ++ more) after
+pub data RunsPhases (terse keeps : Bool) (names : List (List ℕ)) : List (List Task) → List ℕ → Stage → Type 0 where
+  none : RunsPhases terse keeps names [] [] (opening_stage terse keeps names)
+  next : {phases : List (List Task)} {tasks : List Task} {written more : List ℕ} {stage after : Stage} → RunsPhases terse keeps names phases written stage → Passes names stage tasks more after → RunsPhases terse keeps names (phases ++ tasks ∷ []) (written ++ more) after

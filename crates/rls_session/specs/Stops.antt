@@ -1,5 +1,5 @@
 -- What stops the calls of a session.
-use Rattle.std.specs.Prelude.{◌≡◌, ◌⊎◌, ℕ, List, [], ◌∷◌, Some, Result, IfOk}
+use Rattle.std.specs.Prelude.{◌≡◌, ◌⊎◌, ℕ, List, [], ◌∷◌, Some, Result, IfOk, IfSome}
 use Rattle.rls_value.specs.declared.refusal.Refusal.{Refusal}
 use Rattle.rls_value.specs.declared.refusal.Refusal.TheVariants.{NoMemory, Foreign, Serial}
 use Rattle.rls_value.specs.declared.refusal.Cause.{Cause}
@@ -10,7 +10,7 @@ use Rattle.rls_engine.specs.rls_access.specs.Transactions.{Begin}
 use Rattle.rls_engine.specs.Drafts.{RefusesBegin, told_of}
 use Rattle.rls_script.specs.declared.answer.Answer.{Answer}
 use Rattle.rls_script.specs.declared.answer.Answer.TheVariants as a
-use Rattle.rls_session.specs.Parts.{Block, Notes, Session, noted}
+use Rattle.rls_session.specs.Parts.{Block, Notes, Session, noted, part_by, unanswered, with_ended}
 use Rattle.rls_session.specs.Blocks.{RefusesLogin, Ticket, outside, shows, started, with_statement}
 use Rattle.rls_session.specs.declared.open.Stopped.{Stopped}
 use Rattle.rls_session.specs.declared.open.Stopped.TheVariants as stop
@@ -38,9 +38,9 @@ pub record Ended (block : Block) (answer : Answer) (old : Notes) (before : Sessi
   pub said_is : said ≡ answer
   pub session_is : session ≡ outside before.login role
 
--- for want of memory the block comes back as it was
+-- for want of memory the block comes back as it was; else it was so when it ended
 abbrev pub WhenStopped : {X : Type 0} → Block → Stopped X → Type 0
-WhenStopped block (stop.Over why) = Unit {0}
+WhenStopped block (stop.Over why ended) = IfSome ended (λ it. part_by it ≡ block.part)
 WhenStopped block (stop.NoMemory left) = left ≡ block
 WhenStopped block stop.Foreign = Unit {0}
 
@@ -55,7 +55,7 @@ pub record IsConflictAnswer (answer : Answer) : Type 0 where
 
 -- what comes of the commit of a statement outside a block: it is answered, or 40001 is
 abbrev pub CommitsAlone : Block → (answer : Answer) → (old : Notes) → (before : Session) → (said : Answer) → (new : Notes) → (session : Session) → Type 0
-CommitsAlone block answer old before said new session = Ended block answer old before said new session ⊎ (IsConflictAnswer said × (new ≡ old) × (session ≡ before))
+CommitsAlone block answer old before said new session = Ended block answer old before said new session ⊎ (IsConflictAnswer said × (new ≡ with_ended old (Some (unanswered block.part))) × (session ≡ before))
 
 -- a fault that ends the run
 abbrev pub IsFault : Refusal → Type 0

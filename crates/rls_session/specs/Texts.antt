@@ -4,28 +4,50 @@ use Rattle.std.specs.Str.Lines.{lines}
 use Rattle.rls_engine.specs.rls_core.specs.rls_guard.specs.rls_catalog.specs.Changed.{opening}
 use Rattle.rls_engine.specs.rls_core.specs.Records.{Record}
 use Rattle.rls_script.specs.Streams.{GrewBy}
-use Rattle.rls_script.specs.Plans.{Plan, ReadsLines, opening_plan, phases_of}
+use Rattle.rls_script.specs.Plans.{Plan, ReadsLines, Task, opening_plan, phases_of}
 use Rattle.rls_session.specs.Alone.{AreAlone, HasOneLabel}
-use Rattle.rls_session.specs.Books.{AreTheRecords}
-use Rattle.rls_session.specs.Parts.{Notes}
-use Rattle.rls_session.specs.Phases.{Seat, RunsPhases}
+use Rattle.rls_session.specs.Books.{AreTheRecords, AreTried}
+use Rattle.rls_session.specs.Labels.{ended_all}
+use Rattle.rls_session.specs.Parts.{Notes, Tried}
+use Rattle.rls_session.specs.Phases.{Seat, RunsPhases, sessions_at}
 
--- phases from the opening on led to these notes
-pub record LeadsTo (terse : Bool) (plan : Plan) (written : List ℕ) (notes : Notes) : Type 0 where
+-- phases from the opening on, and the end of the script, led to these notes
+pub record LeadsTo (terse keeps : Bool) (plan : Plan) (written : List ℕ) (notes : Notes) : Type 0 where
   pub seats : List Seat
-  pub runs : RunsPhases terse plan.names (phases_of plan) written (record { seats = seats; notes = notes })
+  pub behind : Notes
+  pub runs : RunsPhases terse keeps plan.names (phases_of plan) written (record { seats = seats; notes = behind })
+  pub ended : notes ≡ ended_all (sessions_at seats) behind
+
+-- the same of these phases, with labels of these names
+pub record EndsPhases (terse keeps : Bool) (names : List (List ℕ)) (phases : List (List Task)) (written : List ℕ) (notes : Notes) : Type 0 where
+  pub seats : List Seat
+  pub behind : Notes
+  pub runs : RunsPhases terse keeps names phases written (record { seats = seats; notes = behind })
+  pub ended : notes ≡ ended_all (sessions_at seats) behind
 
 -- The bytes that are written for a script, run phase by phase, with refusals told tersely or not. The records are those of the
 -- transactions that they show as committed, and no others: each has its own, with its login, role, mode, statements and replies, on a
 -- snapshot that has every commit shown in an earlier phase or by an earlier line of its label. Where one label has all commands, each
--- comes to what it comes to alone, after those before it.
-pub record IsPhasesText (terse : Bool) (script written : List ℕ) (history : List Record) : Type 0 where
+-- comes to what it comes to alone, after those before it. And the transactions that ended without a commit, where they are kept: phase by
+-- phase, and in each label by label.
+pub record IsPhasesRun (terse keeps : Bool) (script written : List ℕ) (history : List Record) (tried : List Tried) : Type 0 where
   pub plan : Plan
   pub reads : ReadsLines (lines script) opening_plan plan
   pub notes : Notes
-  pub leads : LeadsTo terse plan written notes
+  pub leads : LeadsTo terse keeps plan written notes
   pub records : AreTheRecords history notes.shown
   pub alone : HasOneLabel script → AreAlone opening notes.shown
+  pub tried_are : AreTried history notes tried
+
+-- the same, whatever is kept
+abbrev pub IsPhasesText : (terse : Bool) → (script written : List ℕ) → List Record → Type 0
+IsPhasesText terse script written history = (keeps : Bool) × (tried : List Tried) × IsPhasesRun terse keeps script written history tried
+
+-- what was taken grew by the text of what was given, and these transactions ended without a commit, where they are kept
+pub record RunsPhasesKeeping (terse keeps : Bool) (given_before given_now taken_before taken_now : List ℕ) (history : List Record) (tried : List Tried) : Type 0 where
+  pub script : List ℕ
+  pub given : given_now ≡ given_before ++ script
+  pub text : GrewBy taken_before taken_now (λ written. IsPhasesRun terse keeps script written history tried)
 
 -- what was taken grew by the text of what was given
 pub record RunsInPhases (terse : Bool) (given_before given_now taken_before taken_now : List ℕ) (history : List Record) : Type 0 where

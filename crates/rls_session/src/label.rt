@@ -1,13 +1,14 @@
 //! A label, under which somebody may be connected.
 
-ghost use Rattle.std.specs.Prelude.{◌≡◌, None, IfOk, OnOk, IfErr, IsOk, OnErr};
-ghost use Rattle.rls_value.specs.declared.refusal.Refusal.TheVariants.{NoMemory};
+ghost use Rattle.std.specs.Prelude.{◌≡◌, None, Some, IfOk, OnOk, IfErr, IsOk, OnErr};
+ghost use Rattle.rls_value.specs.declared.refusal.Refusal.TheVariants.{NoMemory, Foreign};
 ghost use Rattle.rls_script.specs.Connects.{ConnectsToLongName};
 ghost use Rattle.rls_script.specs.Requests.{IsAtOnce};
 ghost use Rattle.rls_script.specs.Spelled.{AsksTexts, IfAsked, IfRequested};
 ghost use Rattle.rls_script.specs.declared.requesting.Ask.TheVariants as a;
 ghost use Rattle.rls_script.specs.declared.requesting.Request.TheVariants as q;
-ghost use Rattle.rls_session.specs.Blocks.{Carries, Executes, status_of};
+ghost use Rattle.rls_session.specs.Blocks.{Carries, Executes, open_part, status_of};
+ghost use Rattle.rls_session.specs.Parts.{with_ended};
 ghost use Rattle.rls_session.specs.Stops.{AnswersRefused, IsFault};
 
 use crate::gate::{At, Gate, Point};
@@ -56,6 +57,19 @@ impl<'a, N: Named> Label<'a, N> {
     pub fn close<R: Wait>(self, rt: &R) {
         let Label { engine: _, session } = self;
         leave(rt, session);
+    }
+
+    /// Ends its session, as at the end of a script. The transaction of an open block ends without a commit.
+    pub(crate) fn end<R: Wait>(&mut self, rt: &R, notes: &mut Notes<N>) -> Result<(), Refusal>
+        ensures ok { OnOk result (notes.new ≡ with_ended notes.old (open_part self.old)) }
+        ensures nobody { self.new ≡ None }
+        ensures fault { IfErr result (λ why. why ≡ Foreign) }
+    {
+        let session = self.session.take();
+        match leave_noting(rt, notes, session) {
+            Ok(()) => Ok(()),
+            Err(fault) => Err(fault),
+        }
     }
 
     /// Executes a command, a `\connect` or another, at a gate. A transaction that it shows as committed is learnt and noted. `Err`
@@ -162,35 +176,65 @@ impl<'a, N: Named> Label<'a, N> {
     }
 
     // The old session ends in any case, but for want of memory.
-    #[tactic(auto, using(crate::proofs::RuleLemmas::carries_connect, crate::proofs::RuleLemmas::connect_stopped))]
-    fn connect<R: Wait>(&mut self, rt: &R, notes: &Notes<N>, role: Name) -> Result<Answer, Refusal>
-        ensures ok { IfOk result (λ answer. Carries notes.now self.old (q.Connect role) answer notes.now self.new) }
-        ensures same { OnErr result (self.new ≡ self.old) }
+    #[tactic(auto, using(crate::proofs::RuleLemmas::connect_entered, crate::proofs::RuleLemmas::connect_stopped, crate::proofs::RuleLemmas::only_foreign, crate::proofs::RuleLemmas::foreign_fault))]
+    fn connect<R: Wait>(
+        &mut self,
+        rt: &R,
+        notes: &mut Notes<N>,
+        role: Name,
+    ) -> Result<Answer, Refusal>
+        ensures ok { IfOk result (λ answer. Carries notes.old self.old (q.Connect role) answer notes.new self.new) }
+        ensures memory { IfErr result (λ why. why ≡ NoMemory → (self.new ≡ self.old) × (notes.new ≡ notes.old)) }
         ensures fault { IfErr result IsFault }
     {
         let begun = Session::connect(self.engine, rt, &role, notes.seen());
         drop(role);
         match begun {
-            Ok(session) => {
-                leave(rt, mem::replace(&mut self.session, Some(session)));
-                Ok(Answer::Replied(Tag::Connect, Reply::Done))
-            }
-            Err(refusal) => self.refuse(rt, refusal),
+            Ok(session) => self.enter(rt, notes, session),
+            Err(refusal) => self.refuse(rt, notes, refusal),
+        }
+    }
+
+    // A session in place of the old one.
+    fn enter<R: Wait>(
+        &mut self,
+        rt: &R,
+        notes: &mut Notes<N>,
+        session: Session<'a, N>,
+    ) -> Result<Answer, Refusal>
+        ensures ok { IfOk result (λ answer. answer ≡ Answer.Replied Tag.Connect Reply.Done) }
+        ensures session { OnOk result (self.new ≡ Some session.entry) }
+        ensures notes { OnOk result (notes.new ≡ with_ended notes.old (open_part self.old)) }
+        ensures fault { IfErr result (λ why. why ≡ Foreign) }
+    {
+        let before = mem::replace(&mut self.session, Some(session));
+        match leave_noting(rt, notes, before) {
+            Ok(()) => Ok(Answer::Replied(Tag::Connect, Reply::Done)),
+            Err(fault) => Err(fault),
         }
     }
 
     // Nobody is connected behind a connect that is refused.
-    fn refuse<R: Wait>(&mut self, rt: &R, refusal: Refusal) -> Result<Answer, Refusal>
+    fn refuse<R: Wait>(
+        &mut self,
+        rt: &R,
+        notes: &mut Notes<N>,
+        refusal: Refusal,
+    ) -> Result<Answer, Refusal>
         ensures ok { AnswersRefused refusal result }
         ensures nobody { OnOk result (self.new ≡ None) }
-        ensures same { OnErr result (self.new ≡ self.old) }
+        ensures notes { OnOk result (notes.new ≡ with_ended notes.old (open_part self.old)) }
+        ensures memory { IfErr result (λ why. why ≡ NoMemory → (self.new ≡ self.old) × (notes.new ≡ notes.old)) }
         ensures fault { IfErr result IsFault }
     {
         match answered(refusal) {
-            Ok(answer) => {
-                leave(rt, self.session.take());
-                Ok(answer)
-            }
+            Ok(answer) => match self.end(rt, notes) {
+                Ok(()) => Ok(answer),
+                Err(fault) => {
+                    drop(answer);
+                    Err(fault)
+                }
+            },
             Err(fault) => Err(fault),
         }
     }
@@ -201,5 +245,23 @@ fn leave<N: Named, R: Wait>(rt: &R, session: Option<Session<'_, N>>) {
     match session {
         Some(session) => session.close(rt),
         None => {}
+    }
+}
+
+/// The same, where the transaction of an open block ends without a commit.
+fn leave_noting<N: Named, R: Wait>(
+    rt: &R,
+    notes: &mut Notes<N>,
+    session: Option<Session<'_, N>>,
+) -> Result<(), Refusal>
+    ensures ok { OnOk result (notes.new ≡ with_ended notes.old (open_part session.entry)) }
+    ensures fault { IfErr result (λ why. why ≡ Foreign) }
+{
+    match session {
+        Some(session) => match session.leave(rt, notes) {
+            Ok(()) => Ok(()),
+            Err(fault) => Err(fault),
+        },
+        None => Ok(()),
     }
 }

@@ -1,14 +1,17 @@
 //! The labels of a script, each with a session of its own.
 
-ghost use Rattle.std.specs.Prelude.{◌≡◌, ◌<◌, ◌≤◌, [], length, List, ℕ, IfOk, IsErrOf};
+ghost use Rattle.std.specs.Prelude.{◌≡◌, ◌<◌, ◌≤◌, [], length, List, ℕ, IfOk, OnOk, IsErrOf};
 ghost use Rattle.std.specs.Str.{bytes_eq};
 ghost use Rattle.rls_script.specs.Spelled.{AsksTexts};
 ghost use Rattle.rls_session.specs.Labels as spec;
-ghost use Rattle.rls_session.specs.Labels.{AnswersUnder, ExecutesUnder};
+ghost use Rattle.rls_session.specs.Blocks.{open_part};
+ghost use Rattle.rls_session.specs.Labels.{AnswersUnder, ExecutesUnder, ended_all, sessions_of};
+ghost use Rattle.rls_session.specs.Parts.{with_end, with_ended};
 
 use crate::gate::{At, NoGate};
 use crate::label::Label;
 use crate::notes::Notes;
+use crate::tried::End;
 use rls_engine::{Engine, Named};
 use rls_script::{Answer, RunFault};
 use rls_value::{Limit, Refusal, Text};
@@ -34,6 +37,23 @@ impl<'a, N: Named> Model for Entry<'a, N> {
     ghost coded = { entry_code };
 
     ghost view = { λ it. record { name = it.name; session = it.label } };
+}
+
+impl<'a, N: Named> Entry<'a, N> {
+    /// Ends an open block, as at the end of a script.
+    fn end<R: Wait>(&mut self, rt: &R, notes: &mut Notes<N>) -> Result<(), RunFault>
+        ensures ok { OnOk result (notes.new ≡ with_end End.Script (with_ended notes.old (open_part self.old.session))) }
+        ensures read { ¬ IsErrOf result RunFault.Read }
+        ensures write { ¬ IsErrOf result RunFault.Write }
+    {
+        match self.label.end(rt, notes) {
+            Ok(()) => {
+                notes.tell(End::Script)?;
+                Ok(())
+            }
+            Err(refusal) => Err(RunFault::of(refusal)),
+        }
+    }
 }
 
 /// The labels in the order in which they came, seen as their list. They must be closed.
@@ -76,6 +96,18 @@ impl<'a, N: Named> Labels<'a, N> {
             label.close(rt);
         }
         labels.destroy_empty();
+    }
+
+    /// Ends the open blocks, as at the end of a script, in the order of the labels.
+    pub(crate) fn end<R: Wait>(&mut self, rt: &R, notes: &mut Notes<N>) -> Result<(), RunFault>
+        ensures ok { OnOk result (notes.new ≡ ended_all (sessions_of self.old) notes.old) }
+        ensures read { ¬ IsErrOf result RunFault.Read }
+        ensures write { ¬ IsErrOf result RunFault.Write }
+    {
+        match end_entries(rt, self.labels.as_mut_slice(), notes) {
+            Ok(()) => Ok(()),
+            Err(fault) => Err(fault),
+        }
     }
 
     fn len(&self) -> usize
@@ -186,6 +218,22 @@ fn nowhere<'g>() -> At<'g, NoGate> {
         session: 0,
         line: 0,
     }
+}
+
+/// Ends the open blocks, as at the end of a script, in the order of the labels.
+fn end_entries<N: Named, R: Wait>(
+    rt: &R,
+    entries: &mut [Entry<'_, N>],
+    notes: &mut Notes<N>,
+) -> Result<(), RunFault>
+    ensures ok { OnOk result (notes.new ≡ ended_all (sessions_of entries.old) notes.old) }
+    ensures read { ¬ IsErrOf result RunFault.Read }
+    ensures write { ¬ IsErrOf result RunFault.Write }
+{
+    for i in 0..entries.len() {
+        entries[i].end(rt, notes)?;
+    }
+    Ok(())
 }
 
 fn place_among<N: Named>(labels: &[Entry<'_, N>], name: &str) -> usize

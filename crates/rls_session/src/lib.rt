@@ -13,6 +13,7 @@ mod phases;
 mod script;
 mod session;
 mod threads;
+mod tried;
 mod worker;
 
 pub use block_laws::{over_until_ended, role_goes_with_rollback, role_lasts_from_commit};
@@ -23,6 +24,7 @@ pub use rls_engine;
 pub use rls_engine::{Book, rls_access, rls_core, rls_equality};
 pub use rls_script;
 pub use rls_script::rls_text;
-pub use script::{run_script, run_script_telling};
+pub use script::{Ran, run_script, run_script_keeping, run_script_telling};
 pub use session::Session;
-pub use threads::{run_threads, run_threads_telling};
+pub use threads::{run_threads, run_threads_keeping, run_threads_telling};
+pub use tried::{Attempted, End};

@@ -1,16 +1,16 @@
 //! The transaction of an open block, and what is kept of one that was shown as committed.
 
-ghost use Rattle.std.specs.Prelude.{◌≡◌, ◌≤◌, ◌+◌, length, None, IfOk, IfErr};
+ghost use Rattle.std.specs.Prelude.{◌≡◌, ◌≤◌, ◌+◌, length, None, IfOk, IfErr, IfSome};
 ghost use Rattle.rls_engine.specs.Drafts.{RefusesBegin};
 ghost use Rattle.rls_session.specs.Blocks.{started};
 ghost use Rattle.rls_session.specs.Books.{IsBooked};
-ghost use Rattle.rls_session.specs.Parts.{Block};
+ghost use Rattle.rls_session.specs.Parts.{Block, part_by};
 ghost use Rattle.rls_session.specs.Stops.{HasPosted, IsStarted, WhenStopped};
 
 use crate::gate::{At, Gate, Point};
 use rls_engine::rls_access::Reply;
 use rls_engine::rls_core::Begin;
-use rls_engine::{Book, Engine, Named, Place, PostFault, Seen, Txn};
+use rls_engine::{Book, Ended, Engine, Named, Place, PostFault, Seen, Txn};
 use rls_statement::Statement;
 use rls_value::shared::Share;
 use rls_value::{Cause, Refusal};
@@ -77,8 +77,8 @@ impl<'a, N: Named> Model for Open<'a, N> {
 
 /// What stops a call of a block.
 pub(crate) enum Stopped<'a, N: Named> {
-    /// 40001, which ended the transaction.
-    Over(Cause),
+    /// 40001, which ended the transaction. It is none of its engine that runs where it isn't given, which no public call brings about.
+    Over(Cause, Option<Ended<N>>),
     /// Want of memory; the block is as it was.
     NoMemory(Open<'a, N>),
     /// It is no transaction of this engine, which no public call brings about.
@@ -126,7 +126,10 @@ impl<'a, N: Named> Open<'a, N> {
                 Err(Stopped::Foreign)
             }
             Err(PostFault::NoMemory) => Err(Stopped::NoMemory(Open { heard, txn })),
-            Err(PostFault::Over) => Err(stopped_by(txn.end(rt))),
+            Err(PostFault::Over) => {
+                let (why, ended) = txn.give_up(rt);
+                Err(stopped_by(why, ended))
+            }
         }
     }
 
@@ -135,18 +138,32 @@ impl<'a, N: Named> Open<'a, N> {
         let Open { heard: _, txn } = self;
         txn.rollback(rt);
     }
+
+    /// The same, and gives what ended.
+    #[tactic(auto, using(crate::proofs::TriedLemmas::stopped_part))]
+    pub(crate) fn give_up<R: Wait>(self, rt: &R) -> Option<Ended<N>>
+        ensures { IfSome result (λ it. part_by it ≡ self.entry.part) }
+    {
+        let Open { heard: _, txn } = self;
+        let (why, ended) = txn.give_up(rt);
+        drop(why);
+        ended
+    }
 }
 
 /// What ended a transaction stops the call.
-pub(crate) fn stopped_by<'a, N: Named>(why: Option<Refusal>) -> Stopped<'a, N>
-    ensures { (block : Block) → WhenStopped block result }
+pub(crate) fn stopped_by<'a, N: Named>(
+    why: Option<Refusal>,
+    ended: Option<Ended<N>>,
+) -> Stopped<'a, N>
+    ensures { (block : Block) → IfSome ended (λ it. part_by it ≡ block.part) → WhenStopped block result }
 {
     match why {
-        Some(Refusal::Serial(why)) => Stopped::Over(why),
-        Some(other) => {
+        Some(Refusal::Serial(why)) => Stopped::Over(why, ended),
+        other => {
             drop(other);
+            drop(ended);
             Stopped::Foreign
         }
-        None => Stopped::Foreign,
     }
 }

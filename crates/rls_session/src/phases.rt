@@ -5,8 +5,10 @@ ghost use Rattle.std.specs.List.{filter};
 ghost use Rattle.rls_script.specs.Streams.{GrewBy};
 ghost use Rattle.rls_script.specs.Plans.{place_in};
 ghost use Rattle.rls_script.specs.Spelled.{AsksTexts};
-ghost use Rattle.rls_session.specs.Labels.{opening_script};
-ghost use Rattle.rls_session.specs.Phases.{AreLate, Passes, RunsPhases, is_late, late_text, notes_after, opening_seats, texts_of};
+ghost use Rattle.rls_session.specs.Labels.{ended_all, opening_script};
+ghost use Rattle.rls_session.specs.Parts.{is_keeping};
+ghost use Rattle.rls_session.specs.Phases.{AreLate, Passes, RunsPhases, is_late, late_text, notes_after, opening_seats, sessions_at, texts_of};
+ghost use Rattle.rls_session.specs.Texts.{EndsPhases};
 ghost use Rattle.rls_session.specs.Works.{IsRan, Work, entered, finished, tracks_of, work_seats};
 
 use crate::gate::Gate;
@@ -69,8 +71,9 @@ pub(crate) fn add_workers<'a, N: Named, G: Gate>(
     Ok(())
 }
 
-/// Runs the phases from the opening on.
-pub(crate) fn run_phases<N, R, G, O>(
+/// Runs the phases from the opening on, and ends the open blocks.
+#[tactic(auto, using(crate::proofs::TextLemmas::phases_ended))]
+pub(crate) fn run_to_end<N, R, G, O>(
     rt: &R,
     alloc: Global,
     workers: &mut [Worker<'_, N, G>],
@@ -87,8 +90,41 @@ where
     requires wide { N.parts ≡ 18446744073709551615 }
     requires texts { AsksTexts N.asks }
     requires seats { work_seats workers.old ≡ opening_seats names.now (min (length names.now) 65) }
-    requires fresh { notes.old ≡ (opening_script notes.old.terse).notes }
-    ensures text { OnOk result (GrewBy (O.taken output.old) (O.taken output.new) (λ written. RunsPhases notes.old.terse names.now (map (λ phase. phase.items) phases.now) written record { seats = work_seats workers.new; notes = notes.new })) }
+    requires fresh { notes.old ≡ (opening_script notes.old.terse (is_keeping notes.old)).notes }
+    ensures text { OnOk result (GrewBy (O.taken output.old) (O.taken output.new) (λ written. EndsPhases notes.old.terse (is_keeping notes.old) names.now (map (λ phase. phase.items) phases.now) written notes.new)) }
+    ensures read { ¬ IsErrOf result RunFault.Read }
+    ensures write { IsErrOf result RunFault.Write → O.failures output.old < O.failures output.new }
+    ensures write_failed { O.failures output.old < O.failures output.new → IsErrOf result RunFault.Write }
+{
+    match run_phases(rt, alloc, workers, notes, names, phases, output) {
+        Ok(()) => match end_workers(rt, workers, notes) {
+            Ok(()) => Ok(()),
+            Err(fault) => Err(fault),
+        },
+        Err(fault) => Err(fault),
+    }
+}
+
+/// Runs the phases from the opening on.
+fn run_phases<N, R, G, O>(
+    rt: &R,
+    alloc: Global,
+    workers: &mut [Worker<'_, N, G>],
+    notes: &mut Notes<N>,
+    names: &Names<'_>,
+    phases: &[Vec<Task<'_>>],
+    output: &mut O,
+) -> Result<(), RunFault>
+where
+    N: Named + Send + Sync,
+    R: Threads + Wait + Clock + Sync,
+    G: Gate + Sync,
+    O: ScriptOut,
+    requires wide { N.parts ≡ 18446744073709551615 }
+    requires texts { AsksTexts N.asks }
+    requires seats { work_seats workers.old ≡ opening_seats names.now (min (length names.now) 65) }
+    requires fresh { notes.old ≡ (opening_script notes.old.terse (is_keeping notes.old)).notes }
+    ensures text { OnOk result (GrewBy (O.taken output.old) (O.taken output.new) (λ written. RunsPhases notes.old.terse (is_keeping notes.old) names.now (map (λ phase. phase.items) phases.now) written record { seats = work_seats workers.new; notes = notes.new })) }
     ensures read { ¬ IsErrOf result RunFault.Read }
     ensures write { IsErrOf result RunFault.Write → O.failures output.old < O.failures output.new }
     ensures write_failed { O.failures output.old < O.failures output.new → IsErrOf result RunFault.Write }
@@ -243,6 +279,22 @@ fn write_places<O: ScriptOut>(
         let refusal = Standing::of(unlabelled, *place).refusal();
         let answer = Answer::Refused(refusal);
         write_answer(alloc, false, names.name(*place), answer, output)?;
+    }
+    Ok(())
+}
+
+/// Ends the open blocks, as at the end of a script, in the order of the labels.
+fn end_workers<N: Named, R: Wait, G: Gate>(
+    rt: &R,
+    workers: &mut [Worker<'_, N, G>],
+    notes: &mut Notes<N>,
+) -> Result<(), RunFault>
+    ensures ok { OnOk result (notes.new ≡ ended_all (sessions_at (work_seats workers.old)) notes.old) }
+    ensures read { ¬ IsErrOf result RunFault.Read }
+    ensures write { ¬ IsErrOf result RunFault.Write }
+{
+    for i in 0..workers.len() {
+        workers[i].end(rt, notes)?;
     }
     Ok(())
 }

@@ -1,6 +1,6 @@
 //! A label's session over an engine.
 
-ghost use Rattle.std.specs.Prelude.{◌≡◌, ◌≢◌, true, Some, None, IfOk, IfErr, IfSome, IfNone, OnErr};
+ghost use Rattle.std.specs.Prelude.{◌≡◌, ◌≢◌, true, Some, None, IfOk, IfErr, IfSome, IfNone, OnOk, OnErr};
 ghost use Rattle.rls_value.specs.declared.refusal.Refusal.TheVariants.{NoMemory, Foreign};
 ghost use Rattle.rls_statement.specs.Tags.{tag_of};
 ghost use Rattle.rls_engine.specs.Drafts.{RefusesBegin};
@@ -8,9 +8,11 @@ ghost use Rattle.rls_script.specs.rls_guard.specs.declared.context.Mode.TheVaria
 ghost use Rattle.rls_script.specs.Spelled.{AsksTexts, IfAsked};
 ghost use Rattle.rls_script.specs.declared.requesting.Ask.TheVariants as a;
 ghost use Rattle.rls_script.specs.declared.requesting.Request.TheVariants as q;
-ghost use Rattle.rls_session.specs.Blocks.{Carries, ExecutesIn, begin_of, inside, outside, status_of};
-ghost use Rattle.rls_session.specs.Parts.{noted};
-ghost use Rattle.rls_session.specs.Stops.{AnswersRefused, CommitsAlone, IsConflictAnswer, IsFault, IsStarted};
+ghost use Rattle.rls_session.specs.Blocks.{Carries, ExecutesIn, begin_of, inside, open_part, outside, status_of};
+ghost use Rattle.std.specs.Option.{option_map};
+ghost use Rattle.rls_session.specs.Parts.{Block, Part, noted, part_by, with_ended};
+ghost use Rattle.rls_session.specs.Parts.{unanswered as spec_unanswered};
+ghost use Rattle.rls_session.specs.Stops.{AnswersRefused, CommitsAlone, IsConflictAnswer, IsFault, IsStarted, WhenStopped};
 
 use crate::answering::answer_of;
 use crate::gate::{At, Gate, NoGate, Point};
@@ -18,11 +20,11 @@ use crate::notes::Notes;
 use crate::open::{Open, Stopped};
 use rls_engine::rls_access::{Mode, Reply};
 use rls_engine::rls_core::Begin;
-use rls_engine::{Engine, Named, Seen};
+use rls_engine::{Ended, Engine, Named, Seen};
 use rls_script::{Answer, Ask, Status, ask_of};
 use rls_statement::Statement;
 use rls_value::shared::Share;
-use rls_value::{Name, Refusal, Tag, TxnState};
+use rls_value::{Cause, Name, Refusal, Tag, TxnState};
 use std::alloc::{AllocError, Global};
 use std::marker::Model;
 use std::mem;
@@ -99,6 +101,24 @@ impl<'a, N: Named> Session<'a, N> {
             over: _,
         } = self;
         spend(rt, block);
+    }
+
+    /// Ends the session. The transaction of an open block ends without a commit.
+    pub(crate) fn leave<R: Wait>(self, rt: &R, notes: &mut Notes<N>) -> Result<(), Refusal>
+        ensures ok { OnOk result (notes.new ≡ with_ended notes.old (open_part (Some self.entry))) }
+        ensures fault { IfErr result (λ why. why ≡ Foreign) }
+    {
+        let Session {
+            engine: _,
+            login: _,
+            role: _,
+            block,
+            over: _,
+        } = self;
+        match give_up(rt, notes, block) {
+            Ok(()) => Ok(()),
+            Err(fault) => Err(fault),
+        }
     }
 
     /// Executes a command that is no `\connect`. A transaction that it shows as committed is learnt and noted. `Err` is want of
@@ -183,7 +203,7 @@ impl<'a, N: Named> Session<'a, N> {
             Ask::Post(statement) => self.give_post(rt, at, notes, statement),
             Ask::Run(statement) => self.give_run(rt, at, notes, statement),
             Ask::Commit => self.give_commit(rt, notes),
-            Ask::Rollback => Ok(self.give_rollback(rt, notes)),
+            Ask::Rollback => self.give_rollback(rt, notes),
         }
     }
 
@@ -212,17 +232,17 @@ impl<'a, N: Named> Session<'a, N> {
     }
 
     /// A statement in a block.
-    #[tactic(auto, using(crate::proofs::RuleLemmas::post_without, crate::proofs::RuleLemmas::carries_post, crate::proofs::RuleLemmas::carries_post_over, crate::proofs::RuleLemmas::put_back))]
+    #[tactic(auto, using(crate::proofs::RuleLemmas::post_without, crate::proofs::RuleLemmas::carries_post, crate::proofs::RuleLemmas::post_over, crate::proofs::RuleLemmas::put_back, crate::proofs::RuleLemmas::only_foreign, crate::proofs::RuleLemmas::foreign_fault))]
     fn give_post<R: Wait + Clock, G: Gate>(
         &mut self,
         rt: &R,
         at: &At<'_, G>,
-        notes: &Notes<N>,
+        notes: &mut Notes<N>,
         asked: Share<Statement>,
     ) -> Result<Answer, Refusal>
         requires known { N.asks asked }
-        ensures ok { IfOk result (λ answer. Carries notes.now (Some self.old) (q.Ask (a.Post asked)) answer notes.now (Some self.new)) }
-        ensures memory { IfErr result (λ why. why ≡ NoMemory → self.new ≡ self.old) }
+        ensures ok { IfOk result (λ answer. Carries notes.old (Some self.old) (q.Ask (a.Post asked)) answer notes.new (Some self.new)) }
+        ensures memory { IfErr result (λ why. why ≡ NoMemory → (self.new ≡ self.old) × (notes.new ≡ notes.old)) }
         ensures fault { IfErr result IsFault }
     {
         let Some(open) = self.take_open() else {
@@ -234,9 +254,9 @@ impl<'a, N: Named> Session<'a, N> {
                 self.put(rt, open);
                 Ok(answer_of(tag(&asked), told))
             }
-            Err(Stopped::Over(why)) => {
+            Err(Stopped::Over(why, ended)) => {
                 self.over = true;
-                Ok(Answer::Refused(Refusal::Serial(why)))
+                answer_conflict(notes, why, ended)
             }
             Err(Stopped::NoMemory(open)) => {
                 self.put(rt, open);
@@ -247,7 +267,7 @@ impl<'a, N: Named> Session<'a, N> {
     }
 
     /// COMMIT.
-    #[tactic(auto, using(crate::proofs::RuleLemmas::commit_without, crate::proofs::RuleLemmas::carries_commit, crate::proofs::RuleLemmas::carries_commit_over, crate::proofs::RuleLemmas::put_back))]
+    #[tactic(auto, using(crate::proofs::RuleLemmas::commit_without, crate::proofs::RuleLemmas::carries_commit, crate::proofs::RuleLemmas::commit_over, crate::proofs::RuleLemmas::put_back, crate::proofs::RuleLemmas::only_foreign, crate::proofs::RuleLemmas::foreign_fault))]
     fn give_commit<R: Wait>(&mut self, rt: &R, notes: &mut Notes<N>) -> Result<Answer, Refusal>
         requires wide { N.parts ≡ 18446744073709551615 }
         ensures ok { IfOk result (λ answer. Carries notes.old (Some self.old) (q.Ask a.Commit) answer notes.new (Some self.new)) }
@@ -262,7 +282,7 @@ impl<'a, N: Named> Session<'a, N> {
                 self.role = role;
                 Ok(Answer::Replied(Tag::Commit, Reply::Done))
             }
-            Err(Stopped::Over(why)) => Ok(Answer::Refused(Refusal::Serial(why))),
+            Err(Stopped::Over(why, ended)) => answer_conflict(notes, why, ended),
             Err(Stopped::NoMemory(open)) => {
                 self.put(rt, open);
                 Err(Refusal::NoMemory)
@@ -273,13 +293,17 @@ impl<'a, N: Named> Session<'a, N> {
 
     /// ROLLBACK, and COMMIT of a block that is over.
     #[tactic(auto, using(crate::proofs::RuleLemmas::carries_rollback))]
-    fn give_rollback<R: Wait>(&mut self, rt: &R, notes: &Notes<N>) -> Answer
-        ensures { Carries notes.now (Some self.old) (q.Ask a.Rollback) result notes.now (Some self.new) }
+    fn give_rollback<R: Wait>(&mut self, rt: &R, notes: &mut Notes<N>) -> Result<Answer, Refusal>
+        ensures ok { IfOk result (λ answer. Carries notes.old (Some self.old) (q.Ask a.Rollback) answer notes.new (Some self.new)) }
+        ensures memory { IfErr result (λ why. why ≡ NoMemory → (self.new ≡ self.old) × (notes.new ≡ notes.old)) }
+        ensures fault { IfErr result IsFault }
     {
         let block = self.block.take();
-        spend(rt, block);
         self.over = false;
-        Answer::Replied(Tag::Rollback, Reply::Done)
+        match give_up(rt, notes, block) {
+            Ok(()) => Ok(Answer::Replied(Tag::Rollback, Reply::Done)),
+            Err(fault) => Err(fault),
+        }
     }
 
     /// A statement outside a block.
@@ -311,6 +335,7 @@ impl<'a, N: Named> Session<'a, N> {
     }
 
     /// The same, in the transaction that began for it.
+    #[tactic(auto, using(crate::proofs::RuleLemmas::stays))]
     fn run_in<R: Wait + Clock, G: Gate>(
         &mut self,
         rt: &R,
@@ -333,13 +358,13 @@ impl<'a, N: Named> Session<'a, N> {
             }
             Err(stopped) => {
                 drop(asked);
-                stop(rt, stopped)
+                stop(rt, notes, stopped)
             }
         }
     }
 
     /// Commits a transaction of one statement, which is answered then.
-    #[tactic(auto, using(crate::proofs::RuleLemmas::commit_stopped, crate::proofs::RuleLemmas::committed_alone))]
+    #[tactic(auto, using(crate::proofs::RuleLemmas::commit_stopped, crate::proofs::RuleLemmas::committed_alone, crate::proofs::RuleLemmas::stays))]
     fn commit_alone<R: Wait>(
         &mut self,
         rt: &R,
@@ -361,7 +386,7 @@ impl<'a, N: Named> Session<'a, N> {
             }
             Err(stopped) => {
                 drop(answer);
-                stop(rt, stopped)
+                stop(rt, notes, stopped)
             }
         }
     }
@@ -408,13 +433,73 @@ fn spend<N: Named, R: Wait>(rt: &R, open: Option<Open<'_, N>>) {
     }
 }
 
+/// Ends what is open without a commit.
+#[tactic(auto, using(crate::proofs::TriedLemmas::gave_up))]
+fn give_up<N: Named, R: Wait>(
+    rt: &R,
+    notes: &mut Notes<N>,
+    block: Option<Open<'_, N>>,
+) -> Result<(), Refusal>
+    ensures ok { OnOk result (notes.new ≡ with_ended notes.old (option_map (λ it. it.part) block.entry)) }
+    ensures fault { IfErr result (λ why. why ≡ Foreign) }
+{
+    match block {
+        Some(open) => match notes.keep(open.give_up(rt)) {
+            Ok(()) => Ok(()),
+            Err(fault) => Err(fault),
+        },
+        None => Ok(()),
+    }
+}
+
+/// Answers 40001, and keeps the transaction that it ended.
+fn answer_conflict<N: Named>(
+    notes: &mut Notes<N>,
+    why: Cause,
+    ended: Option<Ended<N>>,
+) -> Result<Answer, Refusal>
+    ensures ok { IfOk result (λ answer. answer ≡ Answer.Refused (Refusal.Serial why)) }
+    ensures notes { (part : Part) → IfSome ended (λ it. part_by it ≡ part) → OnOk result (notes.new ≡ with_ended notes.old (Some part)) }
+    ensures same { OnErr result (notes.new ≡ notes.old) }
+    ensures fault { IfErr result (λ why. why ≡ Foreign) }
+{
+    match notes.keep(ended) {
+        Ok(()) => Ok(Answer::Refused(Refusal::Serial(why))),
+        Err(fault) => {
+            drop(why);
+            Err(fault)
+        }
+    }
+}
+
+/// Without its statements: what isn't answered isn't shown.
+#[tactic(auto, using(crate::proofs::TriedLemmas::unanswered_part))]
+fn unanswered<N: Named>(ended: Option<Ended<N>>) -> Option<Ended<N>>
+    ensures { (part : Part) → IfSome ended (λ it. part_by it ≡ part) → IfSome result (λ it. part_by it ≡ spec_unanswered part) }
+{
+    match ended {
+        Some(ended) => Some(ended.without_posts()),
+        None => None,
+    }
+}
+
 /// The answer to what stopped a transaction of one statement, or the fault. What is left of the transaction is rolled back.
-fn stop<N: Named, R: Wait>(rt: &R, stopped: Stopped<'_, N>) -> Result<Answer, Refusal>
+#[tactic(auto, using(crate::proofs::TriedLemmas::stopped_ends))]
+fn stop<N: Named, R: Wait>(
+    rt: &R,
+    notes: &mut Notes<N>,
+    stopped: Stopped<'_, N>,
+) -> Result<Answer, Refusal>
     ensures ok { IfOk result IsConflictAnswer }
+    ensures notes { (block : Block) → WhenStopped block stopped.entry → OnOk result (notes.new ≡ with_ended notes.old (Some (spec_unanswered block.part))) }
+    ensures same { OnErr result (notes.new ≡ notes.old) }
     ensures fault { IfErr result IsFault }
 {
     match stopped {
-        Stopped::Over(why) => Ok(Answer::Refused(Refusal::Serial(why))),
+        Stopped::Over(why, ended) => match answer_conflict(notes, why, unanswered(ended)) {
+            Ok(answer) => Ok(answer),
+            Err(fault) => Err(fault),
+        },
         Stopped::NoMemory(open) => {
             open.rollback(rt);
             Err(Refusal::NoMemory)

@@ -1,17 +1,18 @@
 //! A script, run in phases with a thread for each label.
 
-ghost use Rattle.std.specs.Prelude.{◌≡◌, ◌⊎◌, ◌+◌, ◌<◌, ◌≤◌, length, true, false, All, IfOk, OnOk, IsErrOf};
+ghost use Rattle.std.specs.Prelude.{◌≡◌, ◌⊎◌, ◌+◌, ◌<◌, ◌≤◌, length, map, true, false, All, IfOk, OnOk, IsErrOf};
 ghost use Rattle.rls_engine.specs.rls_core.specs.Seen.{world_of};
 ghost use Rattle.rls_engine.specs.rls_core.specs.Headline.{HaveOrder, AreExplained, NumbersDiffer, AreRecorded, AreAdmitted};
 ghost use Rattle.rls_script.specs.Streams.{GrewBy};
 ghost use Rattle.rls_script.specs.Spelled.{AsksTexts, IsSpellable};
 ghost use Rattle.rls_session.specs.Labels.{opening_script};
-ghost use Rattle.rls_session.specs.Texts.{IsPhasesText, LeadsTo, RunsInPhases};
+ghost use Rattle.rls_session.specs.Parts.{is_keeping, tried_by};
+ghost use Rattle.rls_session.specs.Texts.{IsPhasesRun, LeadsTo, RunsInPhases, RunsPhasesKeeping};
 
 use crate::gate::Gate;
 use crate::notes::Notes;
-use crate::phases::{add_workers, close_workers, run_phases};
-use crate::script::{TAG, close};
+use crate::phases::{add_workers, close_workers, run_to_end};
+use crate::script::{Ran, TAG, close};
 use rls_engine::{Book, Engine, Named, Records};
 use rls_script::{MAX_SCRIPT, Plan, RunFault, ScriptIn, ScriptOut, read_plan, read_script};
 use std::alloc::Global;
@@ -57,7 +58,7 @@ where
 }
 
 /// The same, where refusals are told tersely or not: told so, a serialization failure names no objects and no transactions.
-#[tactic(auto, using(crate::proofs::TextLemmas::ran_in_phases))]
+#[tactic(auto, using(crate::proofs::TextLemmas::ran_keeping_none))]
 pub fn run_threads_telling<R, I, O, G>(
     rt: &R,
     alloc: Global,
@@ -87,24 +88,77 @@ where
     ensures write_failed { O.failures output.old < O.failures output.new → IsErrOf result RunFault.Write }
     ensures reads { length (I.given input.new) ≤ length (I.given input.old) + MAX_SCRIPT + 1 }
 {
+    match run_threads_keeping(rt, alloc, terse, false, input, output, gate) {
+        Ok(ran) => {
+            let Ran { book, attempts } = ran;
+            drop(attempts);
+            Ok(book)
+        }
+        Err(fault) => Err(fault),
+    }
+}
+
+/// The same. The transactions that end without a commit are kept, if that is wanted, and given as attempts: phase by phase, and in each
+/// label by label.
+#[tactic(auto, using(crate::proofs::TextLemmas::ran_in_phases))]
+pub fn run_threads_keeping<R, I, O, G>(
+    rt: &R,
+    alloc: Global,
+    terse: bool,
+    keeps: bool,
+    input: &mut I,
+    output: &mut O,
+    gate: &G,
+) -> Result<Ran, RunFault>
+where
+    R: Threads + Wait + Clock + Sync,
+    I: ScriptIn,
+    O: ScriptOut,
+    G: Gate + Sync,
+    ensures text { IfOk result (λ ran. RunsPhasesKeeping terse keeps (I.given input.old) (I.given input.new) (O.taken output.old) (O.taken output.new) ran.book.seen.committed (map tried_by ran.attempts.items)) }
+    ensures ordered { IfOk result (λ ran. HaveOrder (world_of ran.book.seen)) }
+    ensures explained { IfOk result (λ ran. AreExplained (world_of ran.book.seen)) }
+    ensures numbers { IfOk result (λ ran. NumbersDiffer (world_of ran.book.seen)) }
+    ensures recorded { IfOk result (λ ran. AreRecorded (world_of ran.book.seen)) }
+    ensures admitted { IfOk result (λ ran. AreAdmitted (world_of ran.book.seen)) }
+    ensures spelled { IfOk result (λ ran. All (λ it. All IsSpellable it.statements) ran.book.seen.committed) }
+    ensures ended { OnOk result (I.ended input.new ≡ true) }
+    ensures read { IsErrOf result RunFault.Read → (I.failures input.old < I.failures input.new) ⊎ (length (I.given input.old) + MAX_SCRIPT < length (I.given input.new)) }
+    ensures read_failed { I.failures input.old < I.failures input.new → IsErrOf result RunFault.Read }
+    ensures too_long { length (I.given input.old) + MAX_SCRIPT < length (I.given input.new) → IsErrOf result RunFault.Read }
+    ensures unwritten { IsErrOf result RunFault.Read → O.taken output.new ≡ O.taken output.old }
+    ensures write { IsErrOf result RunFault.Write → O.failures output.old < O.failures output.new }
+    ensures write_failed { O.failures output.old < O.failures output.new → IsErrOf result RunFault.Write }
+    ensures reads { length (I.given input.new) ≤ length (I.given input.old) + MAX_SCRIPT + 1 }
+{
     let script = read_script(alloc, input)?;
     let Ok(records) = Records::new(alloc) else {
         drop(script);
         return Err(RunFault::NoMemory);
     };
-    run_named::<Brand, R, O, G>(rt, alloc, records, terse, script.as_slice(), output, gate)
+    run_named::<Brand, R, O, G>(
+        rt,
+        alloc,
+        records,
+        terse,
+        keeps,
+        script.as_slice(),
+        output,
+        gate,
+    )
 }
 
-#[tactic(auto, using(crate::proofs::TextLemmas::closed))]
+#[tactic(auto, using(crate::proofs::TextLemmas::closed, crate::proofs::ScriptLemmas::fresh_as))]
 fn run_named<N, R, O, G>(
     rt: &R,
     alloc: Global,
     records: Records,
     terse: bool,
+    keeps: bool,
     script: &[u8],
     output: &mut O,
     gate: &G,
-) -> Result<Book, RunFault>
+) -> Result<Ran, RunFault>
 where
     N: Named + Send + Sync,
     R: Threads + Wait + Clock + Sync,
@@ -115,13 +169,13 @@ where
     requires name { records.blank.name ≡ N.name }
     requires parts { records.blank.parts ≡ N.parts }
     requires texts { AsksTexts N.asks }
-    ensures text { IfOk result (λ book. GrewBy (O.taken output.old) (O.taken output.new) (λ written. IsPhasesText terse script.now written book.seen.committed)) }
-    ensures ordered { IfOk result (λ book. HaveOrder (world_of book.seen)) }
-    ensures explained { IfOk result (λ book. AreExplained (world_of book.seen)) }
-    ensures numbers { IfOk result (λ book. NumbersDiffer (world_of book.seen)) }
-    ensures recorded { IfOk result (λ book. AreRecorded (world_of book.seen)) }
-    ensures admitted { IfOk result (λ book. AreAdmitted (world_of book.seen)) }
-    ensures asked { IfOk result (λ book. All (λ it. All N.asks it.statements) book.seen.committed) }
+    ensures text { IfOk result (λ ran. GrewBy (O.taken output.old) (O.taken output.new) (λ written. IsPhasesRun terse keeps script.now written ran.book.seen.committed (map tried_by ran.attempts.items))) }
+    ensures ordered { IfOk result (λ ran. HaveOrder (world_of ran.book.seen)) }
+    ensures explained { IfOk result (λ ran. AreExplained (world_of ran.book.seen)) }
+    ensures numbers { IfOk result (λ ran. NumbersDiffer (world_of ran.book.seen)) }
+    ensures recorded { IfOk result (λ ran. AreRecorded (world_of ran.book.seen)) }
+    ensures admitted { IfOk result (λ ran. AreAdmitted (world_of ran.book.seen)) }
+    ensures asked { IfOk result (λ ran. All (λ it. All N.asks it.statements) ran.book.seen.committed) }
     ensures read { ¬ IsErrOf result RunFault.Read }
     ensures write { IsErrOf result RunFault.Write → O.failures output.old < O.failures output.new }
     ensures write_failed { O.failures output.old < O.failures output.new → IsErrOf result RunFault.Write }
@@ -131,7 +185,7 @@ where
         drop(plan);
         return Err(RunFault::NoMemory);
     };
-    let mut notes = Notes::new(alloc, TAG, terse);
+    let mut notes = Notes::keeping(alloc, TAG, terse, keeps);
     match run_engine(rt, alloc, &engine, &mut notes, plan, output, gate) {
         Ok(()) => close(alloc, engine, notes),
         Err(fault) => {
@@ -160,8 +214,8 @@ where
     G: Gate + Sync,
     requires wide { N.parts ≡ 18446744073709551615 }
     requires texts { AsksTexts N.asks }
-    requires fresh { notes.old ≡ (opening_script notes.old.terse).notes }
-    ensures text { OnOk result (GrewBy (O.taken output.old) (O.taken output.new) (λ written. LeadsTo notes.old.terse plan.entry written notes.new)) }
+    requires fresh { notes.old ≡ (opening_script notes.old.terse (is_keeping notes.old)).notes }
+    ensures text { OnOk result (GrewBy (O.taken output.old) (O.taken output.new) (λ written. LeadsTo notes.old.terse (is_keeping notes.old) plan.entry written notes.new)) }
     ensures read { ¬ IsErrOf result RunFault.Read }
     ensures write { IsErrOf result RunFault.Write → O.failures output.old < O.failures output.new }
     ensures write_failed { O.failures output.old < O.failures output.new → IsErrOf result RunFault.Write }
@@ -170,7 +224,7 @@ where
     let mut workers = Vec::new(alloc);
     match add_workers(alloc, engine, gate, &names, &mut workers) {
         Ok(()) => {
-            let ran = run_phases(
+            let ran = run_to_end(
                 rt,
                 alloc,
                 workers.as_mut_slice(),

@@ -4,14 +4,15 @@ ghost use Rattle.std.specs.Prelude.{◌≡◌, ◌<◌, ◌++◌, None, codes, l
 ghost use Rattle.rls_script.specs.Rendering.{answer_text};
 ghost use Rattle.rls_script.specs.Plans.{standing_of};
 ghost use Rattle.rls_script.specs.Spelled.{AsksTexts};
-ghost use Rattle.rls_session.specs.Blocks.{Executes};
-ghost use Rattle.rls_session.specs.Parts.{joined, alike};
+ghost use Rattle.rls_session.specs.Blocks.{Executes, open_part};
+ghost use Rattle.rls_session.specs.Parts.{joined, alike, with_end, with_ended};
 ghost use Rattle.rls_session.specs.Phases.{Follows, RunsAs, RunsServed, RunsTask, opening_seat, refused_text};
 ghost use Rattle.rls_session.specs.Works.{IsRan, entered, finished};
 
 use crate::gate::{At, Gate};
 use crate::label::Label;
 use crate::notes::Notes;
+use crate::tried::End;
 use rls_engine::{Engine, Named};
 use rls_script::{Answer, Failed, RunFault, ScriptOut, Standing, Task, render, write_all};
 use rls_value::Refusal;
@@ -90,6 +91,21 @@ impl<'a, N: Named, G: Gate> Worker<'a, N, G> {
         label.close(rt);
     }
 
+    /// Ends an open block, as at the end of a script.
+    pub(crate) fn end<R: Wait>(&mut self, rt: &R, notes: &mut Notes<N>) -> Result<(), RunFault>
+        ensures ok { OnOk result (notes.new ≡ with_end End.Script (with_ended notes.old (open_part self.old.track.seat.session))) }
+        ensures read { ¬ IsErrOf result RunFault.Read }
+        ensures write { ¬ IsErrOf result RunFault.Write }
+    {
+        match self.label.end(rt, notes) {
+            Ok(()) => {
+                notes.tell(End::Script)?;
+                Ok(())
+            }
+            Err(refusal) => Err(RunFault::of(refusal)),
+        }
+    }
+
     /// Begins a phase, knowing what all know.
     pub(crate) fn enter(&mut self, notes: &Notes<N>)
         ensures { self.new ≡ entered notes.now self.old }
@@ -163,6 +179,10 @@ impl<'a, N: Named, G: Gate> Worker<'a, N, G> {
         let answer = self
             .label
             .execute_at(rt, self.alloc, &at, &mut self.notes, command)?;
+        let Ok(()) = self.notes.tell_by(self.alloc, &answer) else {
+            drop(answer);
+            return Err(Refusal::NoMemory);
+        };
         self.say(terse, answer)
     }
 

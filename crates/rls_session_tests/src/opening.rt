@@ -62,7 +62,10 @@ pub fn finish<N: Named, R: Wait>(rt: &R, txn: Txn<'_, N>) -> Result<Receipt<N>, 
             txn.rollback(rt);
             Err(Refusal::NoMemory)
         }
-        Err(CommitFault::Over(refusal)) => Err(refusal),
+        Err(CommitFault::Over(refusal, ended)) => {
+            drop(ended);
+            Err(refusal)
+        }
     }
 }
 

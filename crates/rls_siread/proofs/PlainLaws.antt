@@ -202,7 +202,8 @@ or_true : (a b : Bool) → b ≡ true → (a || b) ≡ true
 or_true true b is = refl
 or_true false b is = is
 
-plain_of : (limit : ℕ) (objects : List Object) → length (filter is_key objects) ≤ limit → list_any is_rows objects ≡ false → is_plain limit objects ≡ true
+-- few keys, and no rows of a table, are plain
+pub plain_of : (limit : ℕ) (objects : List Object) → length (filter is_key objects) ≤ limit → list_any is_rows objects ≡ false → is_plain limit objects ≡ true
 plain_of limit objects most none =
     or_true (not (list_any is_key objects)) (has_few limit objects)
     (ap (λ (b : Bool). b && not (list_any is_rows objects)) (le-leb (length (filter is_key objects)) limit most) ∙ ap not none)

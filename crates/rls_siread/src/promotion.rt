@@ -1,6 +1,6 @@
 //! Promotion of keys to the rows of their tables.
 
-ghost use Rattle.std.specs.Prelude.{◌≡◌, ◌≤◌, ◌&&◌, ◌++◌, true, not, if◌then◌else◌, IfOk, IfSome, OnOk, length, filter};
+ghost use Rattle.std.specs.Prelude.{◌≡◌, ◌≤◌, ◌&&◌, ◌++◌, true, false, not, if◌then◌else◌, IfOk, IfSome, OnOk, length, filter};
 ghost use Rattle.std.specs.List.{list_any};
 ghost use Rattle.rls_value.specs.declared.object.Object.{Object as Read};
 ghost use Rattle.rls_source.specs.Footprints.{with_object, with_reads, is_among, IsInOrder};
@@ -78,15 +78,16 @@ fn promoted_more(
     })
 }
 
-/// Whether nothing is promoted for sure: there is no key, or there are no more keys than the limit, and none of the objects is
-/// all rows of a table.
+/// Whether nothing is promoted for sure: there are no more keys than the limit, and none of the objects is all rows of a
+/// table; or there is no key.
+#[tactic(auto, using(crate::proofs::PlainLaws::plain_of))]
 pub(crate) fn is_plain(objects: &Footprint, limit: usize) -> bool
     ensures { result ≡ true → is_plain limit objects.now ≡ true }
 {
-    if !has_keys(objects) {
+    if are_few(objects, limit) {
         return true;
     }
-    are_few(objects, limit) && !has_rows(objects)
+    !has_keys(objects)
 }
 
 /// Whether the fresh objects are one at most, and nothing is promoted for sure where they are put among the others.
@@ -98,13 +99,10 @@ pub(crate) fn stay_plain(objects: &Footprint, fresh: &Footprint, limit: usize) -
     if fresh.len() > 1 {
         return false;
     }
-    if !has_keys(objects) && !has_keys(fresh) {
+    if limit > 0 && !has_rows(fresh) && are_few(objects, limit - 1) {
         return true;
     }
-    if limit == 0 || has_rows(objects) || has_rows(fresh) {
-        return false;
-    }
-    are_few(objects, limit - 1)
+    !has_keys(objects) && !has_keys(fresh)
 }
 
 /// Whether one of them is a key.
@@ -114,12 +112,16 @@ fn has_keys(objects: &Footprint) -> bool
     objects.iter().any(|object| is_key(object))
 }
 
-/// Whether there are no more keys than so many.
+/// Whether there are no more keys than so many, and none of the objects is all rows of a table.
 fn are_few(objects: &Footprint, most: usize) -> bool
-    ensures { result ≡ true → length (filter is_key objects.now) ≤ most }
+    ensures keys { result ≡ true → length (filter is_key objects.now) ≤ most }
+    ensures rows { result ≡ true → list_any is_rows objects.now ≡ false }
 {
     let mut left = most;
     for object in objects.iter() {
+        if is_rows(object) {
+            return false;
+        }
         if is_key(object) {
             if left == 0 {
                 return false;

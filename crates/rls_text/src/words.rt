@@ -13,6 +13,9 @@ use std::cmp::min;
 /// Most statements have no more words, so that their list needn't grow.
 const USUAL_WORDS: usize = 32;
 
+/// Most words have no more letters, so that their text needn't grow.
+const USUAL_LETTERS: usize = 24;
+
 /// The words of the text. The last one is `Bad` where a character begins no word; what is behind it isn't read.
 pub fn words(alloc: Global, text: &str) -> Result<Vec<Token>, AllocError>
     ensures { IfOk result (λ tokens. tokens.items ≡ spec.words_of text.now) }
@@ -26,7 +29,11 @@ pub fn words(alloc: Global, text: &str) -> Result<Vec<Token>, AllocError>
 fn chars_of(alloc: Global, text: &str) -> Result<Vec<char>, AllocError>
     ensures { IfOk result (λ letters. letters.items ≡ chars text.now) }
 {
-    text.chars().collect(alloc)
+    let mut letters = Vec::with_capacity(alloc, text.len())?;
+    for letter in text.chars() {
+        letters.push(letter)?;
+    }
+    Ok(letters)
 }
 
 #[tactic(auto, using(crate::proofs::Wording::words_begin, crate::proofs::Wording::words_none, crate::proofs::Wording::words_end, crate::proofs::Wording::words_last, crate::proofs::Wording::words_more))]
@@ -126,7 +133,7 @@ fn word(alloc: Global, first: char, behind: &[char]) -> Result<(Token, &[char]),
     requires { names.is_letter first ≡ true }
     ensures { IfOk result (λ read. spec.word_of first behind.now ≡ (read.0, read.1.now)) }
 {
-    let mut word = String::new(alloc);
+    let mut word = String::with_capacity(alloc, USUAL_LETTERS)?;
     word.push(first.to_ascii_lowercase())?;
     let mut rest = behind;
     while let [next, behind @ ..] = rest {

@@ -13,8 +13,9 @@ use Rattle.rls_check.specs.Wholes.{AreConverted, HasConverted, IsAuditOf}
 use Rattle.rls_check.specs.Checking.{IsFirst}
 use Rattle.rls_check.specs.Explaining.{IsExplained}
 use Rattle.rls_check.specs.Findings.{finding_text}
+use Rattle.rls_session.specs.Parts.{Tried}
 use Rattle.rls_session.specs.rls_script.specs.Streams.{GrewBy}
-use Rattle.rlsdb.specs.Answers.{IsAudited, IsCheckOfOne, IsMigrationOf, IsOrderOf, IsRunText, IsWhyOf, IsWithAudit, RunsGiven, checked_text, is_yes, order_text, placed_if, why_text}
+use Rattle.rlsdb.specs.Answers.{IsAudited, IsCheckOfOne, IsMigrationOf, IsOrderOf, IsKeptText, IsRunText, IsWhyOf, IsWithAudit, RunsGivenKeeping, checked_text, is_yes, order_text, placed_if, why_text}
 use Rattle.rlsdb.specs.AuditLines.{Reads, WritesAudit, ended_lines}
 
 -- the lines that were read, and what holds of them
@@ -44,9 +45,9 @@ explained before after old new audit txn statement row long why placed said read
     reads_more before after (λ texts. IsAuditOf texts audit) (λ texts. GrewBy old new (λ written. IsWhyOf txn statement row long texts written said)) (λ texts is. record { more = why_text why placed; grew = grew; fact = (audit, why, is, is_why, ap (why_text why) stands, says) }) reads
 
 -- the text of a script that was given; what is written on behind it is no more
-pub run_text : (threads terse : Bool) (before after old middle new : List ℕ) (history : List Record) → RunsGiven threads terse before after old middle history → new ≡ middle → GrewBy old new (λ written. IsRunText threads terse written history)
-run_text true terse before after old middle new history it same = record { more = it.text.more; grew = same ∙ it.text.grew; fact = (it.script, it.text.fact) }
-run_text false terse before after old middle new history it same = record { more = it.text.more; grew = same ∙ it.text.grew; fact = (it.script, it.text.fact) }
+pub run_text : (threads terse keeps : Bool) (before after old middle new : List ℕ) (history : List Record) (tried : List Tried) → RunsGivenKeeping threads terse keeps before after old middle history tried → new ≡ middle → GrewBy old new (λ written. IsKeptText threads terse keeps written history tried)
+run_text true terse keeps before after old middle new history tried it same = record { more = it.text.more; grew = same ∙ it.text.grew; fact = (it.script, it.text.fact) }
+run_text false terse keeps before after old middle new history tried it same = record { more = it.text.more; grew = same ∙ it.text.grew; fact = (it.script, it.text.fact) }
 
 -- of more that was written, from none on, it is all
 pub all_of : (now : List ℕ) (Fact : List ℕ → Type 0) → GrewBy [] now Fact → Fact now

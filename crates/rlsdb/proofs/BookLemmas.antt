@@ -11,7 +11,7 @@ use Rattle.rls_check.specs.rls_audit.specs.Shows.{Means, ShowsLine}
 use Rattle.rls_check.specs.rls_audit.specs.Showing.{AreTexts}
 use Rattle.rls_check.specs.rls_audit.specs.rls_core.specs.{Events.World, Headline.AreExplained, Headline.HaveOrder, Seen.world_of}
 use Rattle.rls_laws.specs.Spelled.{StatementsAreTexts}
-use Rattle.rls_session.specs.{rls_engine.specs.Views.Closed, rls_script.specs.Spelled.IsSpellable}
+use Rattle.rls_session.specs.{declared.script.Ran.Ran, rls_engine.specs.Views.Closed, rls_script.specs.Spelled.IsSpellable}
 use Rattle.rlsdb.specs.AuditLines.{WritesLine, WritesTexts, ended_lines}
 
 -- a line that is read back and shows something means it
@@ -86,3 +86,9 @@ pub texts_of : {E : Type 0} (r : Result Closed E) → ((world : World) → HaveO
     → IfOk r (λ book. HaveOrder (world_of book.seen)) → IfOk r (λ book. AreExplained (world_of book.seen)) → IfOk r (λ book. All (λ it. All IsSpellable it.statements) book.seen.committed) → IfOk r (λ book. All AreTexts book.seen.committed)
 texts_of (Ok book) law have explained told = law (world_of book.seen) have explained told
 texts_of (Err e) law have explained told = tt
+
+-- the same of a run with its attempts
+pub kept_texts_of : {E : Type 0} (r : Result Ran E) → ((world : World) → HaveOrder world → AreExplained world → All StatementsAreTexts world.committed → All AreTexts world.committed)
+    → IfOk r (λ ran. HaveOrder (world_of ran.book.seen)) → IfOk r (λ ran. AreExplained (world_of ran.book.seen)) → IfOk r (λ ran. All (λ it. All IsSpellable it.statements) ran.book.seen.committed) → IfOk r (λ ran. All AreTexts ran.book.seen.committed)
+kept_texts_of (Ok ran) law have explained told = law (world_of ran.book.seen) have explained told
+kept_texts_of (Err e) law have explained told = tt

@@ -1,5 +1,6 @@
 pub mod AnsweringLemmas
 pub mod AnswerLemmas
+pub mod AttemptLemmas
 pub mod BookLemmas
 pub mod CheckLemmas
 pub mod CommandLemmas

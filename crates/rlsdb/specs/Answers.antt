@@ -22,8 +22,10 @@ use Rattle.rls_check.specs.declared.walking.Turn.{Turn}
 use Rattle.rls_check.specs.Listing.{IsLong}
 use Rattle.rls_check.specs.ShownAudits.{IsShown}
 use Rattle.rls_check.specs.{LongTexts.long_text, Placed.placed_in, WhyTexts.explanation_text, declared.placed.Placed.Placed}
-use Rattle.rls_session.specs.Scripts.{IsScriptText, RunsScript}
-use Rattle.rls_session.specs.Texts.{IsPhasesText, RunsInPhases}
+use Rattle.rls_session.specs.Parts.{Tried}
+use Rattle.rls_session.specs.Scripts.{IsScriptRun, IsScriptText, RunsScriptKeeping}
+use Rattle.rls_session.specs.Texts.{IsPhasesRun, IsPhasesText, RunsPhasesKeeping}
+use Rattle.rlsdb.specs.Attempts.{WritesAttempts}
 use Rattle.rls_command_line.specs.declared.words.Request.{Request}
 use Rattle.rls_command_line.specs.declared.words.Request.TheVariants as q
 use Rattle.rls_command_line.specs.Words.{is_output, is_output_wanted}
@@ -41,16 +43,25 @@ use Rattle.rlsdb.specs.Graphing.{IsGraphed}
 use Rattle.rlsdb.specs.Reporting.{IsReportOf}
 use Rattle.rlsdb.specs.Tests.{AreTested, IsStopText}
 
--- What was taken grew by the text of the script that was given, run in phases or in the order of its lines. Told tersely, serialization
--- failures name no objects and no transactions.
-abbrev pub RunsGiven : (threads terse : Bool) → List ℕ → List ℕ → List ℕ → List ℕ → List Record → Type 0
-RunsGiven true terse given_before given_now taken_before taken_now history = RunsInPhases terse given_before given_now taken_before taken_now history
-RunsGiven false terse given_before given_now taken_before taken_now history = RunsScript terse given_before given_now taken_before taken_now history
-
 -- the text of some script, so run
 abbrev pub IsRunText : (threads terse : Bool) → List ℕ → List Record → Type 0
 IsRunText true terse written history = (script : List ℕ) × IsPhasesText terse script written history
 IsRunText false terse written history = (script : List ℕ) × IsScriptText terse script written history
+
+-- What was taken grew by the text of the script that was given, run in phases or in the order of its lines. Told tersely, serialization
+-- failures name no objects and no transactions. And the transactions that ended without a commit, where these are kept.
+abbrev pub RunsGivenKeeping : (threads terse keeps : Bool) → List ℕ → List ℕ → List ℕ → List ℕ → List Record → List Tried → Type 0
+RunsGivenKeeping true terse keeps given_before given_now taken_before taken_now history tried = RunsPhasesKeeping terse keeps given_before given_now taken_before taken_now history tried
+RunsGivenKeeping false terse keeps given_before given_now taken_before taken_now history tried = RunsScriptKeeping terse keeps given_before given_now taken_before taken_now history tried
+
+-- the text of some script, so run, with these
+abbrev pub IsKeptText : (threads terse keeps : Bool) → List ℕ → List Record → List Tried → Type 0
+IsKeptText true terse keeps written history tried = (script : List ℕ) × IsPhasesRun terse keeps script written history tried
+IsKeptText false terse keeps written history tried = (script : List ℕ) × IsScriptRun terse keeps script written history tried
+
+-- the text of some script, so run, that goes with these records; and a file took the attempts of the same run
+abbrev pub IsTextWithAttempts : (threads terse : Bool) → List ℕ → List Record → Type 0
+IsTextWithAttempts threads terse written history = (tried : List Tried) × (taken : List ℕ) × IsKeptText threads terse true written history tried × WritesAttempts tried taken
 
 -- the audit of the records was taken by a file, where one is named
 abbrev pub IsAudited : Option (Bor (List ℕ)) → List Record → Option (List ℕ) → Type 0
@@ -178,6 +189,11 @@ abbrev pub IsNumbersAnswer : (together : Bool) → ScriptFile → List ℕ → T
 IsNumbersAnswer true run written = IsWithAudit (IsNumberedText run.terse) written
 IsNumbersAnswer false run written = (history : List Record) × (taken : Option (List ℕ)) × IsNumberedText run.terse written history × IsAudited run.audit history taken
 
+-- the same of a run whose attempts a file took
+abbrev pub IsKeptAnswer : (together : Bool) → ScriptFile → List ℕ → Type 0
+IsKeptAnswer true run written = IsWithAudit (IsTextWithAttempts run.threads run.terse) written
+IsKeptAnswer false run written = (history : List Record) × (taken : Option (List ℕ)) × IsTextWithAttempts run.threads run.terse written history × IsAudited run.audit history taken
+
 -- of what was made, what is an answer: all, or nothing where a file took it
 abbrev pub answered_part : (together : Bool) → List ℕ → List ℕ
 answered_part true made = made
@@ -188,6 +204,7 @@ abbrev pub Answers : Request → List ℕ → Bool → Type 0
 Answers (q.Run run) written done = IsRunAnswer (is_output_wanted run.audit) run written × (done ≡ true)
 Answers (q.RunStopping run) written done = IsStopAnswer (is_output_wanted run.audit) run written done
 Answers (q.RunNumbered run) written done = IsNumbersAnswer (is_output_wanted run.audit) run written × (done ≡ true)
+Answers (q.RunKeeping run out) written done = IsKeptAnswer (is_output_wanted run.audit) run written × (done ≡ true)
 Answers (q.Test tests) written done = AreTested (map (λ name. name.now) tests.files.items) written done
 Answers (q.Order name) written done = (texts : List (List ℕ)) × IsOrderOf texts written × (done ≡ true)
 Answers (q.OrderLong name) written done = (texts : List (List ℕ)) × (ending : Ending) × IsLongOf texts written ending × (done ≡ is_whole ending)

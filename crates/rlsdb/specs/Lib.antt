@@ -1,4 +1,5 @@
 pub mod AuditLines
+pub mod Attempts
 pub mod Tests
 pub mod Numbers
 pub mod Linting
@@ -6,6 +7,7 @@ pub mod Dumping
 pub mod Listing
 pub mod Graphing
 pub mod Reporting
+pub mod Progress
 pub mod Answers
 pub mod Flaws
 pub mod Missing

@@ -1,7 +1,8 @@
 //! The commands about audits.
 
-ghost use Rattle.std.specs.Prelude.{◌≡◌, ◌++◌, ◌∷◌, [], ℕ, nat_lt, true, ◌&&◌, List, length, map, is_some, IfOk, OnOk};
+ghost use Rattle.std.specs.Prelude.{◌≡◌, ◌++◌, ◌∷◌, [], ℕ, nat_lt, true, false, ◌&&◌, List, length, map, is_some, IfOk, OnOk};
 ghost use Rattle.std.specs.Io.Buffered.{writer_buffer};
+ghost use Rattle.rls_check.specs.Checking.{IsFirst};
 ghost use Rattle.rls_check.specs.Findings.{finding_text};
 ghost use Rattle.rls_check.specs.Wholes.{HasConverted, HasRead, IsAuditOf};
 ghost use Rattle.rls_check.specs.{LongTexts.long_text, WhyTexts.explanation_text};
@@ -15,6 +16,7 @@ use crate::device::{DeviceIn, DeviceOut, Nowhere, Source};
 use crate::fault::Fault;
 use crate::missing::{Missing, missing_in};
 use crate::out_file::OutFile;
+use crate::progress::ProgressLine;
 use crate::same_file::{require_apart, require_own};
 use rls_check::{Audit, Converter, Finding, Placed, Reader, Why};
 use rls_command_line::Explain;
@@ -75,11 +77,12 @@ fn write_numbers<O: ScriptOut>(
 pub fn check_all<'a, O: ScriptOut>(
     rt: &HostRuntime,
     names: &[&'a str],
+    progress: &mut ProgressLine<'_>,
     output: &mut O,
 ) -> Result<bool, Fault<'a>>
     ensures { IfOk result (λ hold. GrewBy (O.taken output.old) (O.taken output.new) (λ written. AreChecked (nat_lt 1 (length names.now)) (map (λ name. name.now) names.now) written hold)) }
 {
-    check_each(rt, names, names.len() > 1, output)
+    check_each(rt, names, names.len() > 1, progress, output)
 }
 
 /// The same, with names or without.
@@ -88,6 +91,7 @@ fn check_each<'a, O: ScriptOut>(
     rt: &HostRuntime,
     names: &[&'a str],
     named: bool,
+    progress: &mut ProgressLine<'_>,
     output: &mut O,
 ) -> Result<bool, Fault<'a>>
     ensures { IfOk result (λ hold. GrewBy (O.taken output.old) (O.taken output.new) (λ written. AreChecked named (map (λ name. name.now) names.now) written hold)) }
@@ -95,7 +99,7 @@ fn check_each<'a, O: ScriptOut>(
     let mut hold = true;
     let mut rest = names;
     while let [name, more @ ..] = rest {
-        let holds = check(rt, *name, named, output)?;
+        let holds = check(rt, *name, named, progress, output)?;
         hold = both_hold(hold, holds);
         rest = more;
     }
@@ -114,12 +118,13 @@ fn check<'a, O: ScriptOut>(
     rt: &HostRuntime,
     name: &'a str,
     named: bool,
+    progress: &mut ProgressLine<'_>,
     output: &mut O,
 ) -> Result<bool, Fault<'a>>
     ensures { IfOk result (λ holds. GrewBy (O.taken output.old) (O.taken output.new) (λ written. (texts : List (List ℕ)) × IsCheckOfOne named name.entry.now texts written holds)) }
 {
     let mut input = one_audit_in(rt, name, named)?;
-    match write_check(rt.alloc(), name, named, &mut input, output) {
+    match write_check(rt.alloc(), name, named, &mut input, progress, output) {
         Ok(holds) => Ok(holds),
         Err(fault) => Err(told(fault, name, &input)),
     }
@@ -132,15 +137,31 @@ fn write_check<'a, I: ScriptIn + Drop, O: ScriptOut>(
     name: &'a str,
     named: bool,
     input: &mut AuditIn<I>,
+    progress: &mut ProgressLine<'_>,
     output: &mut O,
 ) -> Result<bool, Fault<'a>>
     ensures { IfOk result (λ holds. Reads (I.given input.old.input) (I.given input.new.input) (λ texts. GrewBy (O.taken output.old) (O.taken output.new) (λ written. IsCheckOfOne named name.entry.now texts written holds))) }
 {
     let audit = read_audit(alloc, name, input)?;
-    let finding = audit.check(alloc)?;
+    let finding = found_in(alloc, &audit, progress)?;
     drop(audit);
     write_finding(alloc, name, named, finding, output)?;
     Ok(is_yes(finding))
+}
+
+/// What is found first in the audit. Nothing of the progress is left to be seen then.
+fn found_in(
+    alloc: Global,
+    audit: &Audit,
+    progress: &mut ProgressLine<'_>,
+) -> Result<Finding, AllocError>
+    ensures found { IfOk result (IsFirst audit.now.transactions audit.now.order) }
+    ensures wiped { progress.new.stands ≡ false }
+{
+    progress.begin("checked", audit.order().len());
+    let found = audit.check_telling(alloc, progress);
+    progress.wipe();
+    found
 }
 
 /// Writes what is found.

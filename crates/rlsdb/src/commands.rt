@@ -10,9 +10,10 @@ ghost use Rattle.rlsdb.specs.Faults.{EndsAnswer, EndsWith, EndsMistake};
 
 use crate::device::{DeviceOut, Nowhere};
 use crate::fault::Fault;
+use crate::progress::ProgressLine;
 use crate::{
-    audits, dumping, graphing, hinting, linting, listing, numbering, reporting, running, shown,
-    stopping, testing,
+    attempting, audits, dumping, graphing, hinting, linting, listing, numbering, reporting,
+    running, shown, stopping, testing,
 };
 use clap::error::ErrorKind;
 use rls_command_line::{
@@ -127,7 +128,7 @@ fn serve<'a, W: Threads + Wait + Clock + Sync, D: Write + Drop>(
 }
 
 /// Does what is asked for.
-#[tactic(auto, using(crate::proofs::CommandLemmas::ran, crate::proofs::CommandLemmas::ordered, crate::proofs::ListingLemmas::answered_long, crate::proofs::CommandLemmas::checked, crate::proofs::CommandLemmas::explained, crate::proofs::ShownLemmas::answered_shown, crate::proofs::LintLemmas::answered_lint, crate::proofs::DumpLemmas::answered_dump, crate::proofs::GraphLemmas::answered_graph, crate::proofs::ReportLemmas::answered_report, crate::proofs::CommandLemmas::migrated, crate::proofs::CommandLemmas::parsed, crate::proofs::TestLemmas::tests_answered, crate::proofs::TestLemmas::stop_answered, crate::proofs::NumberLemmas::numbers_answered))]
+#[tactic(auto, using(crate::proofs::CommandLemmas::ran, crate::proofs::CommandLemmas::ordered, crate::proofs::ListingLemmas::answered_long, crate::proofs::CommandLemmas::checked, crate::proofs::CommandLemmas::explained, crate::proofs::ShownLemmas::answered_shown, crate::proofs::LintLemmas::answered_lint, crate::proofs::DumpLemmas::answered_dump, crate::proofs::GraphLemmas::answered_graph, crate::proofs::ReportLemmas::answered_report, crate::proofs::CommandLemmas::migrated, crate::proofs::CommandLemmas::parsed, crate::proofs::TestLemmas::tests_answered, crate::proofs::TestLemmas::stop_answered, crate::proofs::NumberLemmas::numbers_answered, crate::proofs::AttemptLemmas::attempts_answered))]
 fn answer<'a, W: Threads + Wait + Clock + Sync, D: Write + Drop>(
     rt: &HostRuntime,
     waits: &W,
@@ -140,6 +141,7 @@ fn answer<'a, W: Threads + Wait + Clock + Sync, D: Write + Drop>(
         Request::Run(run) => Ok(run_script(rt, waits, run, output)?),
         Request::RunStopping(run) => Ok(run_stopping(rt, waits, run, output)?),
         Request::RunNumbered(run) => Ok(run_numbered(rt, waits, run, output)?),
+        Request::RunKeeping(run, out) => Ok(run_keeping(rt, waits, run, out, output)?),
         Request::Test(tests) => Ok(testing::test(rt, waits, &tests, output)?),
         Request::Order(audit) => {
             audits::order(rt, audit, output)?;
@@ -212,6 +214,25 @@ fn run_numbered<'a, W: Threads + Wait + Clock + Sync, D: Write + Drop>(
     Ok(true)
 }
 
+/// Runs the script, and keeps what ended without a commit in a file.
+#[tactic(auto, using(crate::proofs::AttemptLemmas::answered_apart, crate::proofs::AttemptLemmas::answered_together))]
+fn run_keeping<'a, W: Threads + Wait + Clock + Sync, D: Write + Drop>(
+    rt: &HostRuntime,
+    waits: &W,
+    run: ScriptFile<'a>,
+    out: &'a str,
+    output: &mut DeviceOut<D>,
+) -> Result<bool, Fault<'a>>
+    ensures { IfOk result (λ done. GrewBy output.old.taken.bytes output.new.taken.bytes (λ written. Answers (Request.RunKeeping run.entry out.entry) written done)) }
+{
+    if is_output_wanted(run.audit) {
+        attempting::run_keeping_with_audit(rt, waits, run, out, output)?;
+        return Ok(true);
+    }
+    attempting::run_keeping(rt, waits, run, out, output)?;
+    Ok(true)
+}
+
 /// Checks the audits, and writes what is found unless the status alone is to say it.
 #[tactic(auto, using(crate::proofs::CheckLemmas::told, crate::proofs::CheckLemmas::untold))]
 fn check<'a, D: Write + Drop>(
@@ -221,10 +242,13 @@ fn check<'a, D: Write + Drop>(
 ) -> Result<bool, Fault<'a>>
     ensures { IfOk result (λ done. GrewBy output.old.taken.bytes output.new.taken.bytes (λ written. Answers (Request.Check checks.now) written done)) }
 {
+    let audits = checks.audits.as_slice();
     if checks.quiet {
-        audits::check_all(rt, checks.audits.as_slice(), &mut Nowhere::new())
+        let mut progress = ProgressLine::silent(rt);
+        audits::check_all(rt, audits, &mut progress, &mut Nowhere::new())
     } else {
-        audits::check_all(rt, checks.audits.as_slice(), output)
+        let mut progress = ProgressLine::new(rt);
+        audits::check_all(rt, audits, &mut progress, output)
     }
 }
 

@@ -2,6 +2,7 @@
 #![tactic(auto)]
 
 mod answering;
+mod attempting;
 mod audit_file;
 mod audits;
 mod commands;
@@ -19,6 +20,7 @@ mod missing;
 mod numbering;
 mod out_file;
 mod passed;
+mod progress;
 mod reporting;
 mod running;
 mod same_file;

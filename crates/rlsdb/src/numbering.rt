@@ -125,7 +125,6 @@ fn script_in<'a>(rt: &HostRuntime, run: ScriptFile<'a>) -> Result<Vec<u8>, Fault
 
 /// Runs these lines, and tells in which transactions they were answered. Where the book has another transaction under a commit that is
 /// told, nothing is.
-#[tactic(auto, using(crate::proofs::NumberLemmas::answers))]
 fn number_lines<W: Wait + Clock>(
     alloc: Global,
     waits: &W,

@@ -13,9 +13,10 @@ use crate::audit_file::AuditIn;
 use crate::audits::{audit_in, read_audit, told};
 use crate::fault::Fault;
 use crate::out_file::OutFile;
+use crate::progress::ProgressLine;
 use crate::same_file::{require_apart, require_own};
 use crate::shown::{filter_of, is_whole, tell};
-use rls_check::{Audit, Ending, Page, PageAsked, ShownFilter, Turn, Walk};
+use rls_check::{Audit, Ending, Page, PageAsked, Progress, ShownFilter, Turn, Walk};
 use rls_command_line::Reported;
 use rls_session::rls_script::{Failed, RunFault, ScriptIn, ScriptOut, write_all};
 use std::alloc::Global;
@@ -56,7 +57,10 @@ fn file_from<'a>(
 {
     require_own(rt, name, "AUDIT", out)?;
     let mut input = audit_in(rt, name)?;
-    match file_report(rt, name, &mut input, out, wanted, most) {
+    let mut progress = ProgressLine::new(rt);
+    let filed = file_report(rt, name, &mut input, out, wanted, most, &mut progress);
+    progress.wipe();
+    match filed {
         Ok(ending) => Ok(ending),
         Err(fault) => Err(told(fault, name, &input)),
     }
@@ -71,11 +75,13 @@ fn file_report<'a, I: ScriptIn + Drop>(
     out: &'a str,
     wanted: &ShownFilter,
     most: usize,
+    progress: &mut ProgressLine<'_>,
 ) -> Result<Ending, Fault<'a>>
     ensures { IfOk result (λ ending. Reads (I.given input.old.input) (I.given input.new.input) (λ texts. (taken : List ℕ) × IsReportOf name.entry.now wanted.now most texts taken ending)) }
 {
     let audit = read_audit(rt.alloc(), name, input)?;
-    let ending = file_audit(rt, &audit, PageAsked { name, wanted, most }, out);
+    let asked = PageAsked { name, wanted, most };
+    let ending = file_audit(rt, &audit, asked, out, progress);
     drop(audit);
     Ok(ending?)
 }
@@ -87,11 +93,12 @@ fn file_audit<'a>(
     audit: &Audit,
     asked: PageAsked<'_>,
     out: &'a str,
+    progress: &mut ProgressLine<'_>,
 ) -> Result<Ending, Fault<'a>>
     ensures { IfOk result (λ ending. (taken : List ℕ) × IsReported asked.entry.name.now asked.entry.wanted.now asked.entry.most audit.now.transactions audit.now.order taken ending) }
 {
     let mut file = OutFile::open(rt, out)?;
-    match write_audit(rt.alloc(), audit, asked, out, &mut file.output) {
+    match write_audit(rt.alloc(), audit, asked, out, progress, &mut file.output) {
         Ok(ending) => {
             keep(rt, file, ending)?;
             Ok(ending)
@@ -153,7 +160,20 @@ fn write_from<'a, O: ScriptOut>(
 {
     require_apart(rt, name, "AUDIT")?;
     let mut input = audit_in(rt, name)?;
-    match write_report(rt.alloc(), name, &mut input, out, wanted, most, output) {
+    let mut progress = ProgressLine::beside_answers(rt);
+    let alloc = rt.alloc();
+    let written = write_report(
+        alloc,
+        name,
+        &mut input,
+        out,
+        wanted,
+        most,
+        &mut progress,
+        output,
+    );
+    progress.wipe();
+    match written {
         Ok(ending) => Ok(ending),
         Err(fault) => Err(told(fault, name, &input)),
     }
@@ -168,13 +188,14 @@ fn write_report<'a, I: ScriptIn + Drop, O: ScriptOut>(
     out: &'a str,
     wanted: &ShownFilter,
     most: usize,
+    progress: &mut ProgressLine<'_>,
     output: &mut O,
 ) -> Result<Ending, Fault<'a>>
     ensures { IfOk result (λ ending. Reads (I.given input.old.input) (I.given input.new.input) (λ texts. GrewBy (O.taken output.old) (O.taken output.new) (λ written. IsReportOf name.entry.now wanted.now most texts written ending))) }
 {
     let audit = read_audit(alloc, name, input)?;
     let asked = PageAsked { name, wanted, most };
-    let ending = write_audit(alloc, &audit, asked, out, output);
+    let ending = write_audit(alloc, &audit, asked, out, progress, output);
     drop(audit);
     Ok(ending?)
 }
@@ -187,17 +208,21 @@ fn write_audit<'a, O: ScriptOut>(
     audit: &Audit,
     asked: PageAsked<'_>,
     out: &'a str,
+    progress: &mut ProgressLine<'_>,
     output: &mut O,
 ) -> Result<Ending, Fault<'a>>
     ensures { IfOk result (λ ending. GrewBy (O.taken output.old) (O.taken output.new) (λ written. IsReported asked.entry.name.now asked.entry.wanted.now asked.entry.most audit.now.transactions audit.now.order written ending)) }
 {
-    let Some(mut page) = audit.page(alloc, asked)? else {
+    let transactions = audit.order().len();
+    progress.begin("counted", transactions);
+    let Some(mut page) = audit.page(alloc, asked, progress)? else {
         return Ok(Ending::NoOrder);
     };
     match audit.missing(asked.wanted.txns.as_slice()) {
         Some(txn) => Ok(Ending::Missing(txn)),
         None => {
-            write_page(alloc, &mut page, out, output)?;
+            progress.begin("written", transactions);
+            write_page(alloc, &mut page, out, progress, output)?;
             Ok(Ending::Walked(page.differs()))
         }
     }
@@ -208,6 +233,7 @@ fn write_page<'a, 'b, O: ScriptOut>(
     alloc: Global,
     page: &mut Page<'b>,
     out: &'a str,
+    progress: &mut ProgressLine<'_>,
     output: &mut O,
 ) -> Result<(), Fault<'a>>
     ensures text { OnOk result (O.taken output.new ≡ O.taken output.old ++ page_text (head_of page.old ++ rest_of page.old (statements_of page.old))) }
@@ -216,7 +242,7 @@ fn write_page<'a, 'b, O: ScriptOut>(
     let mut room = MOST_BYTES;
     write_head(alloc, &*page, &mut room, out, output)?;
     let mut walk = page.walk(alloc)?;
-    let written = write_turns(alloc, page, &mut walk, &mut room, out, output);
+    let written = write_turns(alloc, page, &mut walk, &mut room, out, progress, output);
     drop(walk);
     written?;
     write_foot(alloc, &*page, &mut room, out, output)?;
@@ -257,12 +283,14 @@ fn write_turns<'a, 'b, 'c, O: ScriptOut>(
     walk: &mut Walk<'c>,
     room: &mut usize,
     out: &'a str,
+    progress: &mut ProgressLine<'_>,
     output: &mut O,
 ) -> Result<(), Fault<'a>>
     ensures text { OnOk result (O.taken output.new ++ page_text (rest_of page.new []) ≡ O.taken output.old ++ page_text (rest_of page.old (left walk.old))) }
     ensures found { found_of page.new ≡ found_of page.old }
 {
     while let Some(turn) = walk.next(alloc)? {
+        progress.done(walk.done());
         write_turn(alloc, page, turn, room, out, output)?;
     }
     Ok(())

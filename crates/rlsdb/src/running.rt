@@ -1,13 +1,14 @@
 //! The command that runs a script.
 
-ghost use Rattle.std.specs.Prelude.{◌≡◌, ◌⊎◌, ◌+◌, ◌<◌, ◌++◌, [], List, length, option_map, true, IfOk, OnOk, IsErrOf};
+ghost use Rattle.std.specs.Prelude.{◌≡◌, ◌⊎◌, ◌+◌, ◌<◌, ◌++◌, [], List, length, map, option_map, true, IfOk, OnOk, IsErrOf};
 ghost use Rattle.std.specs.List.{All};
 ghost use Rattle.std.specs.Io.Buffered.{writer_buffer};
 ghost use Rattle.rls_check.specs.rls_audit.specs.Showing.{AreTexts};
 ghost use Rattle.rls_check.specs.rls_audit.specs.rls_core.specs.Calls.{IsOrderBy};
 ghost use Rattle.rls_check.specs.rls_audit.specs.rls_core.specs.Records.{Record};
 ghost use Rattle.rls_session.specs.rls_script.specs.Streams.{GrewBy};
-ghost use Rattle.rlsdb.specs.Answers.{IsAudited, IsRunText, IsWithAudit, RunsGiven};
+ghost use Rattle.rls_session.specs.Parts.{tried_by};
+ghost use Rattle.rlsdb.specs.Answers.{IsAudited, IsKeptText, IsRunText, IsWithAudit, RunsGivenKeeping};
 ghost use Rattle.rlsdb.specs.AuditLines.{WritesAudit, WritesRecords};
 
 use crate::audit_file::write_audit_line;
@@ -22,10 +23,11 @@ use rls_check::rls_guard::rls_catalog::rls_value::Items;
 use rls_command_line::ScriptFile;
 use rls_laws::records_are_texts;
 use rls_session::rls_script::{MAX_SCRIPT, RunFault, ScriptIn, ScriptOut};
-use rls_session::{Book, NoGate, run_script_telling, run_threads_telling};
+use rls_session::{Book, NoGate, Ran, run_script_keeping, run_threads_keeping};
 use std::alloc::Global;
 use std::fs::File;
 use std::io::{Read, Write};
+use std::mem;
 use std::sync::Wait;
 use std::thread::Threads;
 use std::time::Clock;
@@ -46,9 +48,21 @@ where
     require_own_audit(rt, run)?;
     let book = run_file(rt, waits, run, output)?;
     match run.audit {
-        Some(name) => Ok(Some(write_audit(rt, name, &book)?)),
-        None => Ok(None),
+        Some(name) => {
+            let audit = write_audit(rt, name, &book)?;
+            leave(book);
+            Ok(Some(audit))
+        }
+        None => {
+            leave(book);
+            Ok(None)
+        }
     }
+}
+
+/// Leaves the book as it is: the process ends soon, and with it goes its memory, which needn't be given back piece by piece.
+fn leave(book: Book) {
+    mem::forget(book);
 }
 
 /// Runs the script, and writes its audit behind the answers.
@@ -94,10 +108,29 @@ where
     ensures text { IfOk result (λ book. GrewBy output.old.taken.bytes output.new.taken.bytes (λ written. IsRunText run.entry.threads run.entry.terse written book.seen.committed)) }
     ensures texts { IfOk result (λ book. All AreTexts book.seen.committed) }
 {
+    let Ran { book, attempts } = run_kept(rt, waits, run, false, output)?;
+    drop(attempts);
+    Ok(book)
+}
+
+/// Runs the script that is in the file, or the standard input. Transactions that end without a commit are kept, if that is wanted.
+pub(crate) fn run_kept<'a, W, D>(
+    rt: &HostRuntime,
+    waits: &W,
+    run: ScriptFile<'a>,
+    keeps: bool,
+    output: &mut DeviceOut<D>,
+) -> Result<Ran, Fault<'a>>
+where
+    W: Threads + Wait + Clock + Sync,
+    D: Write + Drop,
+    ensures text { IfOk result (λ ran. GrewBy output.old.taken.bytes output.new.taken.bytes (λ written. IsKeptText run.entry.threads run.entry.terse keeps written ran.book.seen.committed (map tried_by ran.attempts.items))) }
+    ensures texts { IfOk result (λ ran. All AreTexts ran.book.seen.committed) }
+{
     match run.file {
-        "-" => Ok(run_from(rt, waits, run, rt.reader(), output)?),
+        "-" => Ok(run_from(rt, waits, run, keeps, rt.reader(), output)?),
         name => match File::open(rt, name) {
-            Ok(file) => Ok(run_from(rt, waits, run, file, output)?),
+            Ok(file) => Ok(run_from(rt, waits, run, keeps, file, output)?),
             Err(error) => Err(Fault::of_script(name, error)),
         },
     }
@@ -108,23 +141,24 @@ fn run_from<'a, W, R, D>(
     rt: &HostRuntime,
     waits: &W,
     run: ScriptFile<'a>,
+    keeps: bool,
     reader: R,
     output: &mut DeviceOut<D>,
-) -> Result<Book, Fault<'a>>
+) -> Result<Ran, Fault<'a>>
 where
     W: Threads + Wait + Clock + Sync,
     R: Read + Drop,
     D: Write + Drop,
-    ensures text { IfOk result (λ book. GrewBy output.old.taken.bytes output.new.taken.bytes (λ written. IsRunText run.entry.threads run.entry.terse written book.seen.committed)) }
-    ensures texts { IfOk result (λ book. All AreTexts book.seen.committed) }
+    ensures text { IfOk result (λ ran. GrewBy output.old.taken.bytes output.new.taken.bytes (λ written. IsKeptText run.entry.threads run.entry.terse keeps written ran.book.seen.committed (map tried_by ran.attempts.items))) }
+    ensures texts { IfOk result (λ ran. All AreTexts ran.book.seen.committed) }
     ensures emptied { OnOk result (writer_buffer output.new.writer ≡ []) }
 {
     let mut input = input_of(rt, run.file, reader)?;
     if run.hints {
-        run_hinted(rt, waits, run, input, output)
+        run_hinted(rt, waits, run, keeps, input, output)
     } else {
-        match run_input(rt.alloc(), waits, run, &mut input, output) {
-            Ok(book) => Ok(book),
+        match run_input(rt.alloc(), waits, run, keeps, &mut input, output) {
+            Ok(ran) => Ok(ran),
             Err(fault) => Err(fault.named(run.file, input.error())),
         }
     }
@@ -135,29 +169,30 @@ fn run_hinted<'a, W, R, D>(
     rt: &HostRuntime,
     waits: &W,
     run: ScriptFile<'a>,
+    keeps: bool,
     input: DeviceIn<R>,
     output: &mut DeviceOut<D>,
-) -> Result<Book, Fault<'a>>
+) -> Result<Ran, Fault<'a>>
 where
     W: Threads + Wait + Clock + Sync,
     R: Read + Drop,
     D: Write + Drop,
-    ensures text { IfOk result (λ book. GrewBy output.old.taken.bytes output.new.taken.bytes (λ written. IsRunText run.entry.threads run.entry.terse written book.seen.committed)) }
-    ensures texts { IfOk result (λ book. All AreTexts book.seen.committed) }
+    ensures text { IfOk result (λ ran. GrewBy output.old.taken.bytes output.new.taken.bytes (λ written. IsKeptText run.entry.threads run.entry.terse keeps written ran.book.seen.committed (map tried_by ran.attempts.items))) }
+    ensures texts { IfOk result (λ ran. All AreTexts ran.book.seen.committed) }
     ensures emptied { OnOk result (writer_buffer output.new.writer ≡ []) }
 {
     let mut hinted = Hinted::new(rt, run.file, input);
-    let ran = run_on(rt.alloc(), waits, run, &mut hinted, output);
+    let ran = run_on(rt.alloc(), waits, run, keeps, &mut hinted, output);
     let error = hinted.error();
     let finished = output.finish();
-    let book = match ran {
-        Ok(book) => book,
+    let ran = match ran {
+        Ok(ran) => ran,
         Err(fault) => {
             return Err(Fault::Ended(fault).named(run.file, error));
         }
     };
     finished?;
-    Ok(book)
+    Ok(ran)
 }
 
 /// The same of the script that is given.
@@ -165,49 +200,51 @@ fn run_input<'a, W, I, D>(
     alloc: Global,
     waits: &W,
     run: ScriptFile<'a>,
+    keeps: bool,
     input: &mut I,
     output: &mut DeviceOut<D>,
-) -> Result<Book, Fault<'a>>
+) -> Result<Ran, Fault<'a>>
 where
     W: Threads + Wait + Clock + Sync,
     I: ScriptIn,
     D: Write + Drop,
-    ensures text { IfOk result (λ book. GrewBy output.old.taken.bytes output.new.taken.bytes (λ written. IsRunText run.entry.threads run.entry.terse written book.seen.committed)) }
-    ensures texts { IfOk result (λ book. All AreTexts book.seen.committed) }
+    ensures text { IfOk result (λ ran. GrewBy output.old.taken.bytes output.new.taken.bytes (λ written. IsKeptText run.entry.threads run.entry.terse keeps written ran.book.seen.committed (map tried_by ran.attempts.items))) }
+    ensures texts { IfOk result (λ ran. All AreTexts ran.book.seen.committed) }
     ensures emptied { OnOk result (writer_buffer output.new.writer ≡ []) }
 {
-    let ran = run_on(alloc, waits, run, input, output);
+    let ran = run_on(alloc, waits, run, keeps, input, output);
     let finished = output.finish();
-    let book = ran?;
+    let ran = ran?;
     finished?;
-    Ok(book)
+    Ok(ran)
 }
 
 /// Runs the script that is given, in phases or in the order of its lines. What is written is its text, and the book has the records
 /// of the transactions that this shows as committed; texts spell what they have, since some order explains them.
-#[tactic(auto, using(crate::proofs::BookLemmas::texts_of))]
+#[tactic(auto, using(crate::proofs::BookLemmas::kept_texts_of))]
 fn run_on<W, I, O>(
     alloc: Global,
     waits: &W,
     run: ScriptFile<'_>,
+    keeps: bool,
     input: &mut I,
     output: &mut O,
-) -> Result<Book, RunFault>
+) -> Result<Ran, RunFault>
 where
     W: Threads + Wait + Clock + Sync,
     I: ScriptIn,
     O: ScriptOut,
-    ensures text { IfOk result (λ book. RunsGiven run.entry.threads run.entry.terse (I.given input.old) (I.given input.new) (O.taken output.old) (O.taken output.new) book.seen.committed) }
-    ensures texts { IfOk result (λ book. All AreTexts book.seen.committed) }
+    ensures text { IfOk result (λ ran. RunsGivenKeeping run.entry.threads run.entry.terse keeps (I.given input.old) (I.given input.new) (O.taken output.old) (O.taken output.new) ran.book.seen.committed (map tried_by ran.attempts.items)) }
+    ensures texts { IfOk result (λ ran. All AreTexts ran.book.seen.committed) }
     ensures ended { OnOk result (I.ended input.new ≡ true) }
     ensures read { IsErrOf result RunFault.Read → (I.failures input.old < I.failures input.new) ⊎ (length (I.given input.old) + MAX_SCRIPT < length (I.given input.new)) }
     ensures write { IsErrOf result RunFault.Write → O.failures output.old < O.failures output.new }
 {
     records_are_texts();
     if run.threads {
-        run_threads_telling(waits, alloc, run.terse, input, output, &NoGate)
+        run_threads_keeping(waits, alloc, run.terse, keeps, input, output, &NoGate)
     } else {
-        run_script_telling(waits, alloc, run.terse, input, output)
+        run_script_keeping(waits, alloc, run.terse, keeps, input, output)
     }
 }
 

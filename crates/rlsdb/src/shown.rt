@@ -11,7 +11,8 @@ ghost use Rattle.rlsdb.specs.AuditLines.{Reads};
 use crate::audit_file::AuditIn;
 use crate::audits::{audit_in, read_audit, told};
 use crate::fault::Fault;
-use rls_check::{Audit, Ending, Finding, ShownFilter, Turn, Walk};
+use crate::progress::ProgressLine;
+use rls_check::{Audit, Ending, Finding, Progress, ShownFilter, Turn, Walk};
 use rls_command_line::{Shown, Wanted};
 use rls_session::rls_script::{Failed, RunFault, ScriptIn, ScriptOut, write_all};
 use std::alloc::Global;
@@ -72,7 +73,10 @@ fn shown_from<'a, O: ScriptOut>(
     ensures { IfOk result (λ ending. GrewBy (O.taken output.old) (O.taken output.new) (λ written. (texts : List (List ℕ)) × IsShownOf wanted.now texts written ending)) }
 {
     let mut input = audit_in(rt, name)?;
-    match write_shown(rt.alloc(), name, &mut input, wanted, output) {
+    let mut progress = ProgressLine::beside_answers(rt);
+    let written = write_shown(rt.alloc(), name, &mut input, wanted, &mut progress, output);
+    progress.wipe();
+    match written {
         Ok(ending) => Ok(ending),
         Err(fault) => Err(told(fault, name, &input)),
     }
@@ -108,12 +112,13 @@ fn write_shown<'a, I: ScriptIn + Drop, O: ScriptOut>(
     name: &'a str,
     input: &mut AuditIn<I>,
     wanted: &ShownFilter,
+    progress: &mut ProgressLine<'_>,
     output: &mut O,
 ) -> Result<Ending, Fault<'a>>
     ensures { IfOk result (λ ending. Reads (I.given input.old.input) (I.given input.new.input) (λ texts. GrewBy (O.taken output.old) (O.taken output.new) (λ written. IsShownOf wanted.now texts written ending))) }
 {
     let audit = read_audit(alloc, name, input)?;
-    let ending = show(alloc, &audit, wanted, output);
+    let ending = show(alloc, &audit, wanted, progress, output);
     drop(audit);
     Ok(ending?)
 }
@@ -124,6 +129,7 @@ fn show<O: ScriptOut>(
     alloc: Global,
     audit: &Audit,
     wanted: &ShownFilter,
+    progress: &mut ProgressLine<'_>,
     output: &mut O,
 ) -> Result<Ending, RunFault>
     ensures { IfOk result (λ ending. GrewBy (O.taken output.old) (O.taken output.new) (λ written. IsShown wanted.now audit.now.transactions audit.now.order written ending)) }
@@ -134,7 +140,8 @@ fn show<O: ScriptOut>(
     match audit.missing(wanted.txns.as_slice()) {
         Some(txn) => Ok(Ending::Missing(txn)),
         None => {
-            let found = show_turns(alloc, &mut walk, wanted, output);
+            progress.begin("shown", audit.order().len());
+            let found = show_turns(alloc, &mut walk, wanted, progress, output);
             drop(walk);
             Ok(Ending::Walked(found?))
         }
@@ -147,6 +154,7 @@ fn show_turns<'a, O: ScriptOut>(
     alloc: Global,
     walk: &mut Walk<'a>,
     wanted: &ShownFilter,
+    progress: &mut ProgressLine<'_>,
     output: &mut O,
 ) -> Result<Option<Finding>, RunFault>
     ensures text { OnOk result (O.taken output.new ≡ O.taken output.old ++ shown_text wanted.now (left walk.old)) }
@@ -154,6 +162,7 @@ fn show_turns<'a, O: ScriptOut>(
 {
     let mut found = None;
     while let Some(turn) = walk.next(alloc)? {
+        progress.done(walk.done());
         found = first_of(found, &turn);
         show_turn(alloc, turn, wanted, output)?;
     }

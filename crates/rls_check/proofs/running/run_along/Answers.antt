@@ -7,10 +7,10 @@ use Rattle.rls_check.proofs.RunningLemmas.{next_agrees, next_differs, all_ran}
 use Rattle.rls_check.proofs.running.run_along.Goals as goal
 
 pub returns : goal.returns
-returns c = all_ran c.args.transactions.now c.args.places.now c.loop-place.place-index c.loop-place.state c.loop-place.committing c.loop-place.invariant c.loop-place-test.false
+returns g c = all_ran c.args.transactions.now c.args.places.now c.loop-place.place-index c.loop-place.state c.loop-place.committing c.loop-place.invariant c.loop-place-test.false
 
 pub returns-in-Differs : goal.returns-in-Differs
-returns-in-Differs c =
+returns-in-Differs g c =
     let ts = c.args.transactions.now in
     let place = get_or c.args.places.now c.loop-place.place-index 0 in
     let one : IsRunAlone c.loop-place.state (transaction_at ts place) (alone.Differs c.in-Differs.finding) =
@@ -18,7 +18,7 @@ returns-in-Differs c =
     next_differs ts c.args.places.now c.loop-place.place-index c.loop-place.state c.loop-place.committing c.loop-place.invariant c.loop-place.committing c.in-Differs.finding c.loop-place-test.true one
 
 pub loop-place-preserved : goal.loop-place-preserved
-loop-place-preserved c =
+loop-place-preserved g c =
     let ts = c.args.transactions.now in
     let place = get_or c.args.places.now c.loop-place.place-index 0 in
     let one : IsRunAlone c.loop-place.state (transaction_at ts place) (alone.Agrees c.in-Agrees.after c.in-Agrees.changes) =

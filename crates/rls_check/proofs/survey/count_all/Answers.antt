@@ -8,7 +8,7 @@ use Rattle.rls_check.proofs.survey.count_all.Goals as goal
 
 -- one statement more is counted and noted, and what it comes to is compared
 pub loop-turn-preserved : goal.loop-turn-preserved
-loop-turn-preserved c =
+loop-turn-preserved g c =
     let turn = c.in-Some.turn in
     let before = left c.loop-turn.walk in
     let after = left c.next.new.self in

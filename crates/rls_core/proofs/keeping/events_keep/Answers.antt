@@ -3,7 +3,7 @@ use Rattle.std.specs.Prelude.{map}
 use Rattle.rls_core.proofs.StatementLemmas.{StatementLaws, lawful}
 use Rattle.rls_core.proofs.RuleLemmas.{set_up}
 use Rattle.rls_core.proofs.AdmittedLemmas.{are_admitted}
-use Rattle.rls_core.proofs.HeadlineLemmas.{can_be_ordered, write_apart, keys_unique, never_meet, recorded, differ}
+use Rattle.rls_core.proofs.HeadlineLemmas.{can_be_ordered, write_apart, keys_unique, never_meet, recorded, run_recorded, differ}
 use Rattle.rls_core.proofs.keeping.events_keep.Goals as goal
 
 pub events_keep-requires : goal.events_keep-requires
@@ -41,6 +41,12 @@ pub returns-clause-records : goal.returns-clause-records
 returns-clause-records c rules safe events =
     recorded c.words_are_told.ensures.histories rules events
     (c.events_keep.ensures.holds (setup_of rules) 1 (map event_of events) (set_up c.rows_stay_sound.ensures.opening rules safe))
+
+pub returns-clause-running : goal.returns-clause-running
+returns-clause-running c rules safe events =
+    run_recorded c.words_are_told.ensures.histories rules events
+    (c.events_keep.ensures.holds (setup_of rules) 1 (map event_of events) (set_up c.rows_stay_sound.ensures.opening rules safe))
+    c.statement_means.ensures
 
 pub returns-clause-admitted : goal.returns-clause-admitted
 returns-clause-admitted c rules safe events = are_admitted rules events

@@ -15,6 +15,11 @@ use Rattle.rls_core.proofs.KeptLemmas.{nothing_changes}
 use Rattle.rls_core.proofs.CallLemmas.{kept_room, seen_room}
 use Rattle.rls_core.proofs.JoinedLemmas.{held_there}
 use Rattle.rls_core.proofs.WorkLemmas.{is_there, follows, happens, stays, runs_then, over_stays, refused_for}
+use Rattle.rls_conflict.specs.Begun.{at_number}
+use Rattle.std.specs.Prelude.{Option}
+use Rattle.rls_core.specs.declared.attempt.Remains.{Remains}
+use Rattle.rls_core.specs.Attempts.{LeftBy, Leaves}
+use Rattle.rls_core.proofs.AttemptLemmas.{is_left, left_serial}
 use Rattle.rls_core.proofs.machine.Core.follow.Goals as goal
 
 pub put-requires-clause-runs : goal.put-requires-clause-runs
@@ -56,21 +61,29 @@ invariant_of-self-then-is_serial c =
     let worked : IsWork (seen_of c.self.inside.committed.items c.self.inside.conflicts c.self.inside.running.entries c.self.inside.next) c.args.work = subst (λ (seen : Seen). IsWork seen c.args.work) (sym c.self.view_is) c.requires.work in
     let it = held_there c.self.inside.conflicts c.args.work.txn c.self.inside.running.entries (subst (λ (seen : Seen). is_some (runs_at seen c.args.work.txn) ≡ true) (sym c.self.view_is) c.requires.runs) in
     let same : c.put.new.running.entries ≡ c.self.inside.running.entries = c.in-Err.ensures.same in
-    let shorter = c.remove.ensures.len in
+    let shorter = c.remove-opened.ensures.len in
     let size : length c.put.new.running.entries ≡ length c.self.inside.running.entries = ap length same in
-    over_stays c.self.inside.committed.items c.self.inside.conflicts c.self.inside.running.entries c.self.inside.next c.self.inside.versions.states (vec_capacity c.self.inside.committed) c.self.inside.versions.room c.self.invariant c.args.work worked it.0 it.1 c.posts_are_tested.ensures c.rollback.new.self c.remove.new.self.entries
+    over_stays c.self.inside.committed.items c.self.inside.conflicts c.self.inside.running.entries c.self.inside.next c.self.inside.versions.states (vec_capacity c.self.inside.committed) c.self.inside.versions.room c.self.invariant c.args.work worked it.0 it.1 c.posts_are_tested.ensures c.rollback.new.self c.remove-opened.new.self.entries
     (subst (λ (known : Known). Becomes c.args.work.txn None known c.rollback.new.self) c.in-Err.ensures.kept c.rollback.ensures)
-    (subst (λ (opens : List (ℕ × Opened)). Looks c.args.work.txn None opens c.remove.new.self.entries) same c.remove.ensures.updates.0) (omega (arith, shorter, size))
+    (subst (λ (opens : List (ℕ × Opened)). Looks c.args.work.txn None opens c.remove-opened.new.self.entries) same c.remove-opened.ensures.updates.0) (omega (arith, shorter, size))
 
 pub returns-then-is_serial-clause-err : goal.returns-then-is_serial-clause-err
 returns-then-is_serial-clause-err c =
     let worked : IsWork (seen_of c.self.inside.committed.items c.self.inside.conflicts c.self.inside.running.entries c.self.inside.next) c.args.work = subst (λ (seen : Seen). IsWork seen c.args.work) (sym c.self.view_is) c.requires.work in
     let it = held_there c.self.inside.conflicts c.args.work.txn c.self.inside.running.entries (subst (λ (seen : Seen). is_some (runs_at seen c.args.work.txn) ≡ true) (sym c.self.view_is) c.requires.runs) in
     let same : c.put.new.running.entries ≡ c.self.inside.running.entries = c.in-Err.ensures.same in
-    subst (λ (old : Seen). NotPosted c.args.work.txn c.args.work.statement old (seen_of c.self.inside.committed.items c.rollback.new.self c.remove.new.self.entries c.self.inside.next) c.in-Err.refusal) c.self.view_is
-    (refused_for c.self.inside.committed.items c.self.inside.conflicts c.self.inside.running.entries c.self.inside.next c.self.inside.versions.states (vec_capacity c.self.inside.committed) c.self.inside.versions.room c.self.invariant c.args.work worked it.0 it.1 c.posts_are_tested.ensures c.rollback.new.self c.remove.new.self.entries c.stands.ensures.found c.in-Err.refusal (sym c.is_serial.ensures ∙ c.if-is_serial.true) c.in-Err.ensures.err
+    subst (λ (old : Seen). NotPosted c.args.work.txn c.args.work.statement old (seen_of c.self.inside.committed.items c.rollback.new.self c.remove-opened.new.self.entries c.self.inside.next) c.in-Err.refusal) c.self.view_is
+    (refused_for c.self.inside.committed.items c.self.inside.conflicts c.self.inside.running.entries c.self.inside.next c.self.inside.versions.states (vec_capacity c.self.inside.committed) c.self.inside.versions.room c.self.invariant c.args.work worked it.0 it.1 c.posts_are_tested.ensures c.rollback.new.self c.remove-opened.new.self.entries c.stands.ensures.found c.in-Err.refusal (sym c.is_serial.ensures ∙ c.if-is_serial.true) c.in-Err.ensures.err
     (subst (λ (known : Known). Becomes c.args.work.txn None known c.rollback.new.self) c.in-Err.ensures.kept c.rollback.ensures)
-    (subst (λ (opens : List (ℕ × Opened)). Looks c.args.work.txn None opens c.remove.new.self.entries) same c.remove.ensures.updates.0) c.remove.ensures.updates.1)
+    (subst (λ (opens : List (ℕ × Opened)). Looks c.args.work.txn None opens c.remove-opened.new.self.entries) same c.remove-opened.ensures.updates.0) c.remove-opened.ensures.updates.1)
+
+pub returns-then-is_serial-clause-left : goal.returns-then-is_serial-clause-left
+returns-then-is_serial-clause-left c =
+    let same : c.put.new.running.entries ≡ c.self.inside.running.entries = c.in-Err.ensures.same in
+    subst (λ (old : Seen). LeftBy c.args.work.txn (runs_at old c.args.work.txn) c.in-Err.refusal c.remains_of.result) c.self.view_is
+    (left_serial c.args.work.txn (runs_at (seen_of c.self.inside.committed.items c.self.inside.conflicts c.self.inside.running.entries c.self.inside.next) c.args.work.txn) c.in-Err.refusal c.remains_of.result (sym c.is_serial.ensures ∙ c.if-is_serial.true)
+    (subst (λ (left : Option Remains). Leaves c.args.work.txn (runs_at (seen_of c.self.inside.committed.items c.self.inside.conflicts c.self.inside.running.entries c.self.inside.next) c.args.work.txn) left) (sym c.remains_of.ensures)
+    (is_left c.self.inside.conflicts c.args.work.txn c.self.inside.running.entries c.remove-opened.result (c.self.invariant.runs c.args.work.txn) (c.remove-opened.ensures.value ∙ ap (at_number c.args.work.txn) same))))
 
 pub returns-clause-err : goal.returns-clause-err
 returns-clause-err c =

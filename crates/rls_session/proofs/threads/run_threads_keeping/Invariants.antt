@@ -1,5 +1,5 @@
 use Rattle.rls_script.specs.Spelled.{IsSpellable}
-use Rattle.rls_session.proofs.script.run_script_telling.Given as goal
+use Rattle.rls_session.proofs.threads.run_threads_keeping.Given as goal
 
 abbrev pub ghosts-run_named-N-Ledger : goal.ghosts-run_named-N-Ledger
 ghosts-run_named-N-Ledger g a = record { name = a.records.blank.name; parts = a.records.blank.parts }
