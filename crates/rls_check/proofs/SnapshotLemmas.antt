@@ -72,8 +72,10 @@ all_put count standings =
     by_place standings (put_all (replicate count []) standings) 0
     (λ i lt.
     let within : i < count = subst (λ n. i < n) size lt in
+    let same : i ≡ 0 + i = omega arith in
     put_at (replicate count []) standings i (subst (λ n. i < n) (sym (length-replicate count [])) within)
-    ∙ ap (λ delta. delta ++ changed_at standings i) (get_or-replicate count i [] [] within))
+    ∙ ap (λ delta. delta ++ changed_at standings i) (get_or-replicate count i [] [] within)
+    ∙ ap (changed_at standings) same)
     ∙ ap (changes_from standings 0) size
 
 -- ---- states
