@@ -9,7 +9,7 @@ import re
 from crates import TOP, libraries, read, root_of
 
 # The crates whose calls are promised, from the lowest up.
-CRATES = """shared_map rls_value rls_expr rls_text rls_hints rls_printing rls_catalog rls_source rls_overlay rls_agreement rls_role rls_grant
+CRATES = """shared_map rls_value rls_expr rls_text rls_hints rls_printing rls_catalog rls_source rls_agreement rls_role rls_grant
     rls_verdict rls_policy rls_access rls_explain rls_lint rls_rows rls_siread rls_conflict rls_core rls_engine rls_script rls_transcript rls_session
     rls_audit rls_check""".split()
 # The crates whose calls are parts of one of these: what they ask for is asked for there.
@@ -26,8 +26,8 @@ FUNCTION = re.compile(r"^( *)(pub )?fn (\w+)")
 
 # Calls whose errors could say so, and which take no memory: what they give is shared, or made of what they are given.
 FREE = set("""Name::copy Value::copy Row::copy Object::copy Why::copy GrantFault::copy Cause::copy Refusal::copy Grant::copy Verdict::copy combine
-    Catalog::copy State::copy Record::copy""".split())
-NEVER = set("""Grants::copy SharedList::copy SharedMap::copy Text::copy Core::rollback Engine::close Reader::finish Converter::finish""".split())
+    Catalog::copy State::copy Record::copy Audited::copy_of Reader::finish Converter::finish""".split())
+NEVER = set("""Grants::copy SharedList::copy SharedMap::copy Text::copy Core::rollback Engine::close""".split())
 
 # Calls that have scenarios, and the public functions that are parts of them: what these ask for is asked for there.
 PARTS = {
@@ -43,36 +43,35 @@ PARTS = {
     "resolve_columns": "NamedTable::copy NamedTable::new inside",
     "Catalog::new": "Name::postgres",
     "Catalog::rows": "SharedMap::runs",
-    "Overlay::new": "OwnChanges::new",
     "Footprint::note_all": "Footprint::from_reads Footprint::note Footprint::to_vec",
     "grant_member": """Delta::push Holdings::into_items Holdings::put Reads::note Reads::note_all SharedList::put
-        effective_roles_by note_walk noted_members noted_role reached require_roles role_named""",
+        Asker::members Asker::require_roles Asker::role Asker::role_named reached""",
     "revoke_member": "SharedList::remove",
-    "has": "effective_roles_of",
+    "has": "effective_roles_of effective_roles_over reaches",
     "option": "options",
     "grant": "Grants::put own_grants put_grants",
     "revoke": "Grants::remove",
     "missing": "is_granted missing_in",
     "applying": "chosen",
-    "run_statement": """Delta::from_slice Delta::with_capacity Reads::copy Reads::with_capacity SelectedTable::copy note_effective_roles
-        noted_effective_roles noted_grants noted_key noted_policies noted_scan noted_table put_all_names put_names put_names_if
-        put_selected put_shared_names put_step require_grantees table_named with_policy with_replaced without_policy""",
+    "run_statement": """Delta::from_slice Delta::with_capacity Reads::copy Reads::with_capacity SelectedTable::copy
+        Asker::by_key Asker::grants Asker::note_all Asker::policies Asker::require_grantees Asker::scan Asker::table
+        Asker::table_named Asker::with_capacity put_all_names put_names put_names_if put_selected put_shared_names put_step
+        with_policy with_replaced without_policy""",
     "Core::post": "Decisions::new Posted::new",
     "Core::order": "Conflicts::order",
     "run": "Begin::copy Core::happen",
     "Session::execute": "Session::execute_at ask_of request_for",
+    "line_of_record": "Decisions::copy_all",
+    "Audit::explain": "explain_row",
+    "Turn::shown": "outcomes push_escaped_line",
 }
 
-# Calls that only runs of the program make, and their parts: they read a script and write answers, write and read the lines of audits,
-# or a command makes each.
+# Calls that only runs of the program make, and their parts: they read a script, or write answers or what is told of them; and those
+# of rls_lint, for whose paths crates.txt has no room.
 WHOLE = {
     "run_script": "read_script run_script_telling write_answer",
     "run_threads": "Notes::join Plan::into_parts read_plan run_threads_telling",
-    "write_report": "Told::lines Told::of filled lines_told marked script_of split_lines tolds_of",
-    "line_of_record": "Audited::copy_of Decisions::copy_all in_order printed", "write_line": "", "read_line": "",
-    "findings": "Finding::line Named::follow Named::opening",
-    "Reader::line": "", "Audit::check": "", "Audit::explain": "explain_row", "Why::lines": "", "Converter::line": "",
-    "Audit::walk": "", "Walk::next": "", "Turn::shown": "outcomes",
+    "write_report": "", "findings": "Finding::line Named::follow Named::opening",
 }
 
 

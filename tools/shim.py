@@ -8,7 +8,7 @@ import subprocess
 import tempfile
 
 HERE = os.path.dirname(os.path.abspath(__file__))
-HANG = 300
+HANG = 900
 
 # What was tried (`request`, `read` or `write`), how it went wrong, its place; the status, a signal's number below zero; how much
 # the program had written before; how many files its folder then had, what it had written, and OUT, which is None where there is none.

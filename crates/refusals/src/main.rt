@@ -2,11 +2,14 @@
 //! of its requests for memory in turn.
 #![tactic(auto)]
 
+mod audits;
+mod checks;
 mod conflicts;
 mod copies;
 mod cores;
 mod engines;
 mod hints;
+mod lines;
 mod locks;
 mod maps;
 mod opening;
@@ -16,7 +19,9 @@ mod sessions;
 mod sources;
 mod statements;
 mod states;
+mod transcripts;
 mod values;
+mod walks;
 
 fn main(rt: HostRuntime) {
     let alloc = rt.alloc();
@@ -33,4 +38,8 @@ fn main(rt: HostRuntime) {
     cores::play_all(&rt, alloc);
     engines::play_all(&rt, alloc);
     sessions::play_all(&rt, alloc);
+    lines::play_all(&rt, alloc);
+    checks::play_all(&rt, alloc);
+    walks::play_all(&rt, alloc);
+    transcripts::play_all(&rt, alloc);
 }

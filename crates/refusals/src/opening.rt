@@ -1,13 +1,14 @@
 //! States, cores and statements that scenarios begin on.
 
 use crate::scenario::{after, both, taken};
-use rls_agreement::agrees_on;
+use rls_check::rls_agreement::agrees_on;
 use rls_session::rls_access::{Ctx, Effect, Mode, Outcome, run_statement};
 use rls_session::rls_core::rls_guard::rls_catalog::rls_value::shared::Share;
 use rls_session::rls_core::rls_guard::rls_catalog::rls_value::{Name, Object, Refusal};
 use rls_session::rls_core::rls_guard::rls_catalog::{Catalog, Delta};
 use rls_session::rls_core::rls_guard::rls_role::rls_statement::Statement;
 use rls_session::rls_core::rls_guard::rls_source::{Footprint, Plain};
+use rls_session::rls_core::rls_rows::State;
 use rls_session::rls_core::{Begin, Core};
 use rls_session::rls_text::parse;
 use std::alloc::Global;
@@ -185,6 +186,21 @@ pub fn are_same_states<'x>(
     Ok(agree?)
 }
 
+/// The same of states under numbers.
+pub fn are_same_versions<'x>(
+    alloc: Global,
+    left: &'x State,
+    right: &'x State,
+    names: &[&str],
+) -> Result<bool, Refusal> {
+    let all = everything(alloc, names)?;
+    let mut left = left.view();
+    let mut right = right.view();
+    let agree = agrees_on(alloc, &mut left, &mut right, &all);
+    drop(all);
+    Ok(agree?)
+}
+
 /// Whether both have just the same objects.
 pub fn are_same_objects(left: &Footprint, right: &Footprint) -> bool {
     left.len() == right.len() && has_all(left, right)
@@ -226,14 +242,14 @@ pub fn core_after(alloc: Global, texts: &[&str]) -> Result<Core, Refusal> {
 fn run_all(core: &mut Core, alloc: Global, texts: &[&str]) -> Result<(), Refusal> {
     connect(core, alloc, "postgres")?;
     for text in texts {
-        run_alone(core, alloc, text)?;
+        run_alone(core, alloc, "postgres", text)?;
     }
     Ok(())
 }
 
-/// The statement of `postgres` in a transaction of its own.
-fn run_alone(core: &mut Core, alloc: Global, text: &str) -> Result<(), Refusal> {
-    let txn = core.begin(alloc, begin_as(alloc, "postgres")?)?;
+/// The statement of the role in a transaction of its own.
+pub fn run_alone(core: &mut Core, alloc: Global, role: &str, text: &str) -> Result<(), Refusal> {
+    let txn = core.begin(alloc, begin_as(alloc, role)?)?;
     core.post(alloc, txn, shared(alloc, text)?)?;
     core.commit(alloc, txn)?;
     Ok(())

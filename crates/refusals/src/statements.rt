@@ -2,7 +2,7 @@
 
 use crate::opening::{GRANTS, apply, context, state_after};
 use crate::scenario::{Scenario, after, both, is_text, play};
-use rls_printing::{print, print_command};
+use rls_check::rls_audit::rls_printing::{print, print_command};
 use rls_session::rls_access::{Ctx, Effect, Outcome, run_statement};
 use rls_session::rls_core::rls_guard::rls_catalog::Catalog;
 use rls_session::rls_core::rls_guard::rls_catalog::rls_value::Refusal;

@@ -1,8 +1,7 @@
 //! Calls of states, which are changed, copied and kept under numbers.
 
-use crate::opening::{GRANTS, are_same_states, changes_of, everything, state_after};
+use crate::opening::{GRANTS, are_same_states, are_same_versions, changes_of, state_after};
 use crate::scenario::{Scenario, after, both, play, taken};
-use rls_agreement::agrees_on;
 use rls_session::rls_core::rls_guard::rls_catalog::rls_value::{Name, Refusal, Row, Value};
 use rls_session::rls_core::rls_guard::rls_catalog::{Catalog, Delta};
 use rls_session::rls_core::rls_rows::{State, Versions};
@@ -300,19 +299,10 @@ fn are_same_at<'x>(
     right: Option<&'x State>,
 ) -> Result<bool, Refusal> {
     match (left, right) {
-        (Some(left), Some(right)) => is_same_state(alloc, left, right),
+        (Some(left), Some(right)) => are_same_versions(alloc, left, right, &NAMES),
         (None, None) => Ok(true),
         _ => Ok(false),
     }
-}
-
-fn is_same_state<'x>(alloc: Global, left: &'x State, right: &'x State) -> Result<bool, Refusal> {
-    let all = everything(alloc, &NAMES)?;
-    let mut left = left.view();
-    let mut right = right.view();
-    let agree = agrees_on(alloc, &mut left, &mut right, &all);
-    drop(all);
-    Ok(agree?)
 }
 
 pub fn play_all(rt: &impl Print, alloc: Global) {

@@ -1,2 +1,1 @@
-pub mod LookedUp
 pub use Rattle.rls_catalog.specs.State

@@ -3,7 +3,7 @@ use Rattle.std.specs.Prelude.{[], ◌∷◌}
 use Rattle.std.proofs.Common.{refl, arith}
 use Rattle.rls_value.specs.declared.object.Object.{Object}
 use Rattle.rls_value.specs.declared.object.Object.TheVariants as o
-use Rattle.rls_core.specs.rls_guard.specs.rls_catalog.specs.{State.AgreesAt, Changed.opening}
+use Rattle.rls_core.specs.rls_access.specs.rls_guard.specs.rls_catalog.specs.{State.AgreesAt, Changed.opening}
 use Rattle.rls_audit.specs.Lines.{Head, End}
 use Rattle.rls_audit.specs.Audits.{AreRecords, IsAudit, AuditHolds}
 

@@ -4,7 +4,7 @@ use Rattle.std.specs.List.{All, AllByRecursion, position_or_len}
 use Rattle.std.proofs.Common.{refl, sym, ap, ◌∙◌}
 use Rattle.std.proofs.lemmas.List.{drop_more}
 use Rattle.std.proofs.lemmas.List.Elements.{All-from_recursion, recursion_from_All}
-use Rattle.rls_core.specs.rls_guard.specs.rls_catalog.specs.declared.change.Change.{Change}
+use Rattle.rls_core.specs.rls_access.specs.rls_guard.specs.rls_catalog.specs.declared.change.Change.{Change}
 use Rattle.rls_audit.specs.Lines.{comes_before, put_in, in_object_order}
 use Rattle.rls_audit.specs.Ordered.{leads, is_in_order}
 

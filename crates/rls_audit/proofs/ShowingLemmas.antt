@@ -9,13 +9,13 @@ use Rattle.std.proofs.lemmas.List.Elements.{All-append, All-nil, All-from_recurs
 use Rattle.rls_value.specs.{declared.refusal.Limit.Limit, declared.refusal.Refusal.Refusal, declared.value.Value.Value}
 use Rattle.rls_value.specs.declared.refusal.Refusal.TheVariants as refusal
 use Rattle.rls_expr.specs.{declared.policy.Policy.Policy, declared.table.Column.Column, declared.table.TableDef.TableDef}
-use Rattle.rls_core.specs.rls_guard.specs.rls_catalog.specs.declared.change.Change.{Change}
-use Rattle.rls_core.specs.rls_guard.specs.rls_catalog.specs.declared.change.Change.TheVariants as c
-use Rattle.rls_core.specs.rls_guard.specs.rls_catalog.specs.{declared.change.RowChange.RowChange, declared.role.RoleDef.RoleDef, declared.role.Membership.Membership, declared.grant.Grant.Grant}
+use Rattle.rls_core.specs.rls_access.specs.rls_guard.specs.rls_catalog.specs.declared.change.Change.{Change}
+use Rattle.rls_core.specs.rls_access.specs.rls_guard.specs.rls_catalog.specs.declared.change.Change.TheVariants as c
+use Rattle.rls_core.specs.rls_access.specs.rls_guard.specs.rls_catalog.specs.{declared.change.RowChange.RowChange, declared.role.RoleDef.RoleDef, declared.role.Membership.Membership, declared.grant.Grant.Grant}
 use Rattle.rls_statement.specs.declared.statement.Statement.{Statement}
-use Rattle.rls_core.specs.rls_guard.specs.{declared.reply.Reply.Reply, declared.reply.Decision.Decision, declared.effect.Effect.Effect}
-use Rattle.rls_core.specs.rls_guard.specs.declared.effect.Effect.TheVariants as effect
-use Rattle.rls_core.specs.rls_guard.specs.Effects.{changes_of}
+use Rattle.rls_core.specs.rls_access.specs.rls_guard.specs.{declared.reply.Reply.Reply, declared.reply.Decision.Decision, declared.effect.Effect.Effect}
+use Rattle.rls_core.specs.rls_access.specs.rls_guard.specs.declared.effect.Effect.TheVariants as effect
+use Rattle.rls_core.specs.rls_access.specs.rls_guard.specs.Effects.{changes_of}
 use Rattle.rls_text.specs.{ParseResults.IsParseResult, ParseResults.IsSpelled, ParseResults.first_limit, Grammar.Spells, Words.words_of, declared.token.Token.Token}
 use Rattle.rls_printing.specs.Outputs.{output_tokens_text}
 use Rattle.rls_printing.specs.StatementForms as form

@@ -2,11 +2,11 @@
 use Rattle.std.specs.Prelude.{◌≡◌, ℕ, List, Bool, Result, Ok, Err, codes}
 use Rattle.std.proofs.Common.{◌⊎◌, inl, inr, refl}
 use Rattle.rls_value.specs.{declared.value.Value.Value, declared.refusal.Refusal.Refusal}
-use Rattle.rls_core.specs.rls_guard.specs.rls_catalog.specs.declared.verdict.Verdict.{Verdict}
-use Rattle.rls_core.specs.rls_guard.specs.rls_catalog.specs.declared.verdict.Verdict.TheVariants as v
-use Rattle.rls_core.specs.rls_guard.specs.declared.reply.Reply.{Reply}
-use Rattle.rls_core.specs.rls_guard.specs.declared.reply.Reply.TheVariants as r
-use Rattle.rls_core.specs.rls_guard.specs.declared.reply.Decision.{Decision}
+use Rattle.rls_core.specs.rls_access.specs.rls_guard.specs.rls_catalog.specs.declared.verdict.Verdict.{Verdict}
+use Rattle.rls_core.specs.rls_access.specs.rls_guard.specs.rls_catalog.specs.declared.verdict.Verdict.TheVariants as v
+use Rattle.rls_core.specs.rls_access.specs.rls_guard.specs.declared.reply.Reply.{Reply}
+use Rattle.rls_core.specs.rls_access.specs.rls_guard.specs.declared.reply.Reply.TheVariants as r
+use Rattle.rls_core.specs.rls_access.specs.rls_guard.specs.declared.reply.Decision.{Decision}
 use Rattle.rls_codec.specs.Looking.{by_word}
 use Rattle.rls_codec.specs.Codec.{Codec}
 use Rattle.rls_codec.specs.Codecs.{natural, list_of, via}

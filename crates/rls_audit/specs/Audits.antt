@@ -1,7 +1,7 @@
 -- Which lists of lines are audits, and when an audit holds. What an audit doesn't show of a record (the role that a statement sets,
 -- what stood at an object before, what was read) may be anything, so there have to be records that show these lines.
 use Rattle.std.specs.Prelude.{◌≡◌, ℕ, ◌<◌, ◌≤◌, List, map, length}
-use Rattle.rls_core.specs.rls_guard.specs.rls_catalog.specs.Changed.{opening}
+use Rattle.rls_core.specs.rls_access.specs.rls_guard.specs.rls_catalog.specs.Changed.{opening}
 use Rattle.rls_history.specs.Orders.{IsOrder}
 use Rattle.rls_core.specs.Records.{Record, record_at, history_by}
 use Rattle.rls_core.specs.Alone.{Explains, changes_made}

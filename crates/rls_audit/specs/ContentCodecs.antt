@@ -3,7 +3,7 @@ use Rattle.std.specs.Prelude.{◌≡◌, ℕ, List, Bool, true, false, Option, S
 use Rattle.std.proofs.Common.{refl, sym, ap, ◌∙◌, arith}
 use Rattle.serde_json.specs.Data.{no_items}
 use Rattle.rls_expr.specs.declared.table.Column.{Column}
-use Rattle.rls_core.specs.rls_guard.specs.rls_catalog.specs.{declared.role.RoleDef.RoleDef, declared.role.Membership.Membership}
+use Rattle.rls_core.specs.rls_access.specs.rls_guard.specs.rls_catalog.specs.{declared.role.RoleDef.RoleDef, declared.role.Membership.Membership}
 use Rattle.rls_codec.specs.Codec.{Codec, Rest}
 use Rattle.rls_codec.specs.Codecs.{flag, list_of, maybe, via}
 use Rattle.rls_codec.specs.Arrays.{part, no_more, tuple, rest_via}

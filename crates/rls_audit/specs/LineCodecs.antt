@@ -2,7 +2,7 @@
 use Rattle.std.specs.Prelude.{◌≡◌, ℕ, List, Bool, true, false, ◌==◌, Option, Some, Result, codes}
 use Rattle.std.proofs.Common.{◌⊎◌, inl, inr, refl, eq-eqb}
 use Rattle.rls_value.specs.declared.refusal.Refusal.{Refusal}
-use Rattle.rls_core.specs.rls_guard.specs.{declared.context.Mode.Mode, declared.reply.Reply.Reply, declared.reply.Decision.Decision}
+use Rattle.rls_core.specs.rls_access.specs.rls_guard.specs.{declared.context.Mode.Mode, declared.reply.Reply.Reply, declared.reply.Decision.Decision}
 use Rattle.rls_codec.specs.Looking.{Anything, found_where}
 use Rattle.rls_codec.specs.Codec.{Codec, Fields}
 use Rattle.rls_codec.specs.Codecs.{natural, text, list_of, via, parsed}

@@ -5,12 +5,12 @@ use Rattle.std.specs.Ordering.{is_lt}
 use Rattle.rls_value.specs.{declared.value.Value.Value, declared.refusal.Refusal.Refusal, declared.object.Object.Object, Objects.object_order}
 use Rattle.rls_value.specs.declared.object.Object.TheVariants as o
 use Rattle.rls_expr.specs.{declared.policy.Policy.Policy, declared.table.TableDef.TableDef}
-use Rattle.rls_core.specs.rls_guard.specs.rls_catalog.specs.{declared.role.RoleDef.RoleDef, declared.role.Membership.Membership, declared.grant.Grant.Grant, declared.change.Change.Change}
-use Rattle.rls_core.specs.rls_guard.specs.rls_catalog.specs.declared.change.Change.TheVariants as c
-use Rattle.rls_core.specs.rls_guard.specs.rls_source.specs.Sequences.{put_before}
+use Rattle.rls_core.specs.rls_access.specs.rls_guard.specs.rls_catalog.specs.{declared.role.RoleDef.RoleDef, declared.role.Membership.Membership, declared.grant.Grant.Grant, declared.change.Change.Change}
+use Rattle.rls_core.specs.rls_access.specs.rls_guard.specs.rls_catalog.specs.declared.change.Change.TheVariants as c
+use Rattle.rls_core.specs.rls_access.specs.rls_guard.specs.rls_source.specs.Sequences.{put_before}
 use Rattle.rls_statement.specs.declared.statement.Statement.{Statement}
-use Rattle.rls_core.specs.rls_guard.specs.{declared.reply.Reply.Reply, declared.reply.Decision.Decision, declared.effect.Effect.Effect, Effects.changes_of}
-use Rattle.rls_core.specs.rls_guard.specs.declared.effect.Effect.TheVariants as effect
+use Rattle.rls_core.specs.rls_access.specs.rls_guard.specs.{declared.reply.Reply.Reply, declared.reply.Decision.Decision, declared.effect.Effect.Effect, Effects.changes_of}
+use Rattle.rls_core.specs.rls_access.specs.rls_guard.specs.declared.effect.Effect.TheVariants as effect
 use Rattle.rls_core.specs.rls_access.specs.Transactions.{Begin}
 use Rattle.rls_core.specs.Records.{Record}
 use Rattle.rls_audit.specs.declared.contents.GrantShape.{GrantShape}

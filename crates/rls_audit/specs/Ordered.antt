@@ -1,6 +1,6 @@
 -- Whether changes come in the order of their objects.
 use Rattle.std.specs.Prelude.{List, [], ◌∷◌, Bool, true, ◌&&◌, not}
-use Rattle.rls_core.specs.rls_guard.specs.rls_catalog.specs.declared.change.Change.{Change}
+use Rattle.rls_core.specs.rls_access.specs.rls_guard.specs.rls_catalog.specs.declared.change.Change.{Change}
 use Rattle.rls_audit.specs.Lines.{comes_before}
 
 -- the object of the first of the others doesn't come before that of the change

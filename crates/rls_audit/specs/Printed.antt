@@ -2,13 +2,13 @@
 use Rattle.std.specs.Prelude.{ℕ, suc, true, List, [], ◌∷◌, ◌++◌, map, length, option_map, unwrap_or, slice_get, encode_utf8_all}
 use Rattle.std.specs.List.{flat_map}
 use Rattle.rls_expr.specs.{declared.policy.Policy.Policy, declared.table.TableDef.TableDef, declared.table.Column.Column}
-use Rattle.rls_core.specs.rls_guard.specs.rls_catalog.specs.declared.change.Change.{Change}
-use Rattle.rls_core.specs.rls_guard.specs.rls_catalog.specs.declared.change.Change.TheVariants as c
+use Rattle.rls_core.specs.rls_access.specs.rls_guard.specs.rls_catalog.specs.declared.change.Change.{Change}
+use Rattle.rls_core.specs.rls_access.specs.rls_guard.specs.rls_catalog.specs.declared.change.Change.TheVariants as c
 use Rattle.rls_statement.specs.declared.statement.Statement.{Statement}
 use Rattle.rls_statement.specs.declared.statement.Statement.TheVariants.{CreatePolicy}
 use Rattle.rls_printing.specs.Outputs.{output_tokens_text}
 use Rattle.rls_printing.specs.StatementForms as form
-use Rattle.rls_core.specs.rls_guard.specs.declared.effect.Effect.{Effect}
+use Rattle.rls_core.specs.rls_access.specs.rls_guard.specs.declared.effect.Effect.{Effect}
 use Rattle.rls_core.specs.Records.{Record}
 use Rattle.rls_audit.specs.declared.contents.TableShape.{TableShape}
 use Rattle.rls_audit.specs.declared.changes.Changed.{Changed}

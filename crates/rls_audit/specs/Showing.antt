@@ -4,13 +4,13 @@ use Rattle.std.specs.List.{All}
 use Rattle.rls_value.specs.declared.refusal.Refusal.{Refusal}
 use Rattle.rls_expr.specs.declared.policy.Policy.{Policy}
 use Rattle.rls_expr.specs.declared.table.TableDef.{TableDef}
-use Rattle.rls_core.specs.rls_guard.specs.rls_catalog.specs.declared.change.Change.{Change}
-use Rattle.rls_core.specs.rls_guard.specs.rls_catalog.specs.declared.change.Change.TheVariants as c
+use Rattle.rls_core.specs.rls_access.specs.rls_guard.specs.rls_catalog.specs.declared.change.Change.{Change}
+use Rattle.rls_core.specs.rls_access.specs.rls_guard.specs.rls_catalog.specs.declared.change.Change.TheVariants as c
 use Rattle.rls_statement.specs.declared.statement.Statement.{Statement}
 use Rattle.rls_statement.specs.declared.statement.Statement.TheVariants.{CreatePolicy}
-use Rattle.rls_core.specs.rls_guard.specs.declared.effect.Effect.{Effect}
-use Rattle.rls_core.specs.rls_guard.specs.declared.effect.Effect.TheVariants as effect
-use Rattle.rls_core.specs.rls_guard.specs.Effects.{changes_of}
+use Rattle.rls_core.specs.rls_access.specs.rls_guard.specs.declared.effect.Effect.{Effect}
+use Rattle.rls_core.specs.rls_access.specs.rls_guard.specs.declared.effect.Effect.TheVariants as effect
+use Rattle.rls_core.specs.rls_access.specs.rls_guard.specs.Effects.{changes_of}
 use Rattle.rls_text.specs.{ParseResults.IsSpelled, declared.token.Token.Token}
 use Rattle.rls_core.specs.Records.{Record}
 use Rattle.rls_audit.specs.RefusalCodecs.{IsAudited}

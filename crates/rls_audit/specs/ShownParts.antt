@@ -2,7 +2,7 @@
 use Rattle.std.specs.Prelude.{◌≡◌, ℕ, List, ◌++◌}
 use Rattle.std.specs.List.{AllZip}
 use Rattle.rls_expr.specs.declared.policy.Policy.{Policy}
-use Rattle.rls_core.specs.rls_guard.specs.rls_catalog.specs.declared.change.Change.{Change}
+use Rattle.rls_core.specs.rls_access.specs.rls_guard.specs.rls_catalog.specs.declared.change.Change.{Change}
 use Rattle.rls_core.specs.Posted.{Posted}
 use Rattle.rls_audit.specs.declared.changes.Changed.{Changed}
 use Rattle.rls_audit.specs.declared.lines.Answered.{Answered}

@@ -11,10 +11,10 @@ use Rattle.rls_value.specs.declared.refusal.NameKind.TheVariants as n
 use Rattle.rls_value.specs.declared.refusal.DefinedKind.TheVariants as d
 use Rattle.rls_value.specs.Words.{privilege_word, kind_word, tag_text}
 use Rattle.rls_value.specs.Refusals.{name_kind_text, name_kind_of}
-use Rattle.rls_core.specs.rls_guard.specs.rls_catalog.specs.declared.verdict.Side.{Side}
-use Rattle.rls_core.specs.rls_guard.specs.rls_catalog.specs.declared.verdict.Side.TheVariants as s
-use Rattle.rls_core.specs.rls_guard.specs.declared.context.Mode.{Mode}
-use Rattle.rls_core.specs.rls_guard.specs.declared.context.Mode.TheVariants as m
+use Rattle.rls_core.specs.rls_access.specs.rls_guard.specs.rls_catalog.specs.declared.verdict.Side.{Side}
+use Rattle.rls_core.specs.rls_access.specs.rls_guard.specs.rls_catalog.specs.declared.verdict.Side.TheVariants as s
+use Rattle.rls_core.specs.rls_access.specs.rls_guard.specs.declared.context.Mode.{Mode}
+use Rattle.rls_core.specs.rls_access.specs.rls_guard.specs.declared.context.Mode.TheVariants as m
 use Rattle.rls_codec.specs.Looking.{worded}
 use Rattle.rls_codec.specs.Codec.{Codec}
 use Rattle.rls_codec.specs.Codecs.{one_word}

@@ -8,7 +8,7 @@ use Rattle.rls_catalog.specs.declared.change.Change.{Change}
 use Rattle.rls_catalog.specs.State.{State, AgreesOn}
 use Rattle.rls_catalog.specs.Changed.{opening, changed_all}
 use Rattle.rls_value.specs.declared.object.Object.{Object}
-use Rattle.rls_explain.specs.rls_meaning.specs.rls_guard.specs.rls_source.specs.{Footprints.{with_reads, footprint_of}, FootprintLaws.with_reads_more}
+use Rattle.rls_explain.specs.rls_meaning.specs.rls_access.specs.rls_guard.specs.rls_source.specs.{Footprints.{with_reads, footprint_of}, FootprintLaws.with_reads_more}
 use Rattle.rls_history.specs.Orders.{with_placed, none_placed}
 use Rattle.rls_check.specs.declared.committing.Committing.{Committing}
 use Rattle.rls_check.specs.Checking.{AgreeWhere, no_changes, state_by, wide_of, wide_of_all}

@@ -13,7 +13,7 @@ use Rattle.rls_catalog.specs.declared.change.Change.TheVariants as c
 use Rattle.rls_catalog.specs.State.{State, AgreesAt, AgreesOn, with_key, is_same_id}
 use Rattle.rls_catalog.specs.Changed.{opening, changed, changed_all}
 use Rattle.rls_catalog.specs.Bases.{Fits, covers, covers_any, row_at}
-use Rattle.rls_explain.specs.rls_meaning.specs.rls_guard.specs.rls_source.specs.Once.{agrees_on_reads}
+use Rattle.rls_explain.specs.rls_meaning.specs.rls_access.specs.rls_guard.specs.rls_source.specs.Once.{agrees_on_reads}
 use Rattle.rls_check.specs.Checking.{state_by, wide_of, wide_of_all, AgreeWhere}
 
 -- a change leaves what it doesn't cover

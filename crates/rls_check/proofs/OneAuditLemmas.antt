@@ -8,8 +8,8 @@ use Rattle.rls_value.specs.declared.object.Object.{Object}
 use Rattle.rls_expr.specs.{declared.table.Column.Column, declared.table.TableDef.TableDef}
 use Rattle.rls_statement.specs.declared.statement.Statement.{Statement}
 use Rattle.rls_catalog.specs.declared.change.Change.{Change}
-use Rattle.rls_explain.specs.rls_meaning.specs.rls_guard.specs.{declared.reply.Reply.Reply, declared.reply.Decision.Decision, declared.effect.Effect.Effect, Effects.changes_of}
-use Rattle.rls_audit.specs.rls_access.specs.Transactions.{Begin}
+use Rattle.rls_explain.specs.rls_meaning.specs.rls_access.specs.rls_guard.specs.{declared.reply.Reply.Reply, declared.reply.Decision.Decision, declared.effect.Effect.Effect, Effects.changes_of}
+use Rattle.rls_audit.specs.rls_core.specs.rls_access.specs.Transactions.{Begin}
 use Rattle.rls_audit.specs.rls_core.specs.Records.{Record, record_at}
 use Rattle.rls_audit.specs.declared.contents.TableShape.{TableShape}
 use Rattle.rls_audit.specs.declared.changes.Changed.{Changed}

@@ -8,7 +8,7 @@ use Rattle.rls_statement.specs.declared.statement.Statement.{Statement}
 use Rattle.rls_codec.specs.CodecLaws.{both_false}
 use Rattle.rls_audit.specs.ValueCodecs.{row}
 use Rattle.rls_explain.specs.declared.outcome.{Reason.Reason, RowOutcome.RowOutcome}
-use Rattle.rls_explain.specs.rls_meaning.specs.rls_guard.specs.{declared.context.Ctx.Ctx, declared.effect.Effect.Effect}
+use Rattle.rls_explain.specs.rls_meaning.specs.rls_access.specs.rls_guard.specs.{declared.context.Ctx.Ctx, declared.effect.Effect.Effect}
 use Rattle.rls_check.specs.ShownObjects.{data_before, reason_data, row_data, statement_data}
 
 pub before_plain : (new : Option (List Value)) (before : List Value) → has_float (data_before new before) ≡ false

@@ -1,7 +1,7 @@
 -- What a whole audit shows: its lines.
 use Rattle.std.specs.Prelude.{ℕ, suc, List, [], ◌∷◌, ◌++◌, map, length, get_or}
 use Rattle.rls_statement.specs.declared.statement.Statement.{Statement}
-use Rattle.rls_explain.specs.rls_meaning.specs.rls_guard.specs.declared.context.Mode.TheVariants.{Write}
+use Rattle.rls_explain.specs.rls_meaning.specs.rls_access.specs.rls_guard.specs.declared.context.Mode.TheVariants.{Write}
 use Rattle.rls_value.specs.declared.object.Object.TheVariants as o
 use Rattle.rls_audit.specs.Lines.{Written, Answered, Shown, Line, Head, Txn, End}
 use Rattle.rls_audit.specs.Lines as content

@@ -2,7 +2,7 @@
 use Rattle.std.specs.Prelude.{◌≡◌, ℕ, ◌<◌, ◌≤◌, Bool, true, false, List, [], length, get_or, take, Option, Some, None, is_some}
 use Rattle.rls_catalog.specs.declared.change.Change.{Change}
 use Rattle.rls_catalog.specs.Changed.{opening}
-use Rattle.rls_explain.specs.rls_meaning.specs.rls_guard.specs.rls_source.specs.Footprints.{footprint_of}
+use Rattle.rls_explain.specs.rls_meaning.specs.rls_access.specs.rls_guard.specs.rls_source.specs.Footprints.{footprint_of}
 use Rattle.rls_history.specs.Orders.{placed_by, none_placed}
 use Rattle.rls_check.specs.declared.transaction.Transaction.{Transaction}
 use Rattle.rls_check.specs.declared.committing.Committing.{Committing}

@@ -7,7 +7,7 @@ use Rattle.rls_value.specs.declared.refusal.Refusal.TheVariants as r
 use Rattle.rls_expr.specs.{declared.policy.Policy.Policy, declared.table.Column.Column, declared.table.TableDef.TableDef}
 use Rattle.rls_statement.specs.declared.statement.Statement.{Statement}
 use Rattle.rls_statement.specs.declared.statement.Statement.TheVariants as st
-use Rattle.rls_explain.specs.rls_meaning.specs.rls_guard.specs.Effects.{changes_of}
+use Rattle.rls_explain.specs.rls_meaning.specs.rls_access.specs.rls_guard.specs.Effects.{changes_of}
 use Rattle.rls_audit.specs.rls_core.specs.Records.{Record}
 use Rattle.rls_audit.specs.Lines.{Content, content_of}
 use Rattle.rls_audit.specs.Lines as lines

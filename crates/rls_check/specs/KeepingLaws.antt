@@ -7,8 +7,8 @@ use Rattle.rls_value.specs.declared.refusal.Refusal.{Refusal}
 use Rattle.rls_expr.specs.declared.policy.Policy.{Policy}
 use Rattle.rls_statement.specs.{Commands.statement_of, declared.statement.Statement.Statement}
 use Rattle.rls_statement.specs.declared.statement.Statement.TheVariants as st
-use Rattle.rls_audit.specs.rls_access.specs.Transactions.{Begin}
-use Rattle.rls_explain.specs.rls_meaning.specs.rls_guard.specs.{declared.context.Mode.Mode, declared.reply.Reply.Reply, declared.reply.Decision.Decision}
+use Rattle.rls_audit.specs.rls_core.specs.rls_access.specs.Transactions.{Begin}
+use Rattle.rls_explain.specs.rls_meaning.specs.rls_access.specs.rls_guard.specs.{declared.context.Mode.Mode, declared.reply.Reply.Reply, declared.reply.Decision.Decision}
 use Rattle.rls_audit.specs.rls_text.specs.{ParseResults.IsSpelled, Words.words_of}
 use Rattle.rls_audit.specs.rls_text.proofs.{CommandLaws.one_command, Laws.one_statement}
 use Rattle.rls_audit.specs.{Asked.IsAsked, Reading.HasStatement, Reading.HasPolicies, Reading.IsPolicyText}

@@ -7,7 +7,6 @@ pub mod Walking
 pub mod WalkLaws
 pub mod Findings
 pub mod WhyTexts
-pub mod Escaped
 pub mod ShownFilters
 pub mod ShownRows
 pub mod ShownObjects
@@ -19,5 +18,4 @@ pub mod KeepingLaws
 pub mod Stored
 pub mod Wholes
 pub use Rattle.rls_audit
-pub use Rattle.rls_audit.specs.rls_access
 pub use Rattle.rls_explain.specs.rls_meaning

@@ -5,7 +5,7 @@ use Rattle.rls_value.specs.{declared.row.RowId.RowId, Names.one_of}
 use Rattle.rls_catalog.specs.State.{is_same_id}
 use Rattle.rls_explain.specs.declared.outcome.{RowWord.RowWord, RowOutcome.RowOutcome}
 use Rattle.rls_explain.specs.declared.outcome.RowWord.TheVariants as w
-use Rattle.rls_explain.specs.rls_meaning.specs.rls_guard.specs.declared.context.Ctx.{Ctx}
+use Rattle.rls_explain.specs.rls_meaning.specs.rls_access.specs.rls_guard.specs.declared.context.Ctx.{Ctx}
 use Rattle.rls_check.specs.declared.filtering.ShownFilter.{ShownFilter}
 
 -- all where nothing is named, else those that are

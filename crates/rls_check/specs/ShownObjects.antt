@@ -7,7 +7,7 @@ use Rattle.rls_value.specs.{declared.value.Value.Value, Objects.row_id_text}
 use Rattle.rls_statement.specs.{declared.statement.Statement.Statement, Tags.tag_of}
 use Rattle.rls_audit.specs.{Printed.printed_text, ValueCodecs.row}
 use Rattle.rls_explain.specs.declared.outcome.{Reason.Reason, RowOutcome.RowOutcome}
-use Rattle.rls_explain.specs.rls_meaning.specs.rls_guard.specs.{declared.context.Ctx.Ctx, declared.effect.Effect.Effect}
+use Rattle.rls_explain.specs.rls_meaning.specs.rls_access.specs.rls_guard.specs.{declared.context.Ctx.Ctx, declared.effect.Effect.Effect}
 use Rattle.rls_check.specs.ShownRows.{reason_text, row_word}
 use Rattle.rls_check.specs.WhyTexts.{came_text}
 

@@ -11,10 +11,10 @@ use Rattle.rls_audit.specs.Printed.{printed_text}
 use Rattle.rls_explain.specs.declared.outcome.{RowWord.RowWord, RowOutcome.RowOutcome}
 use Rattle.rls_explain.specs.declared.outcome.RowWord.TheVariants as w
 use Rattle.rls_explain.specs.Outcomes.{outcomes_with}
-use Rattle.rls_explain.specs.rls_meaning.specs.rls_guard.specs.{declared.context.Ctx.Ctx, declared.effect.Effect.Effect}
+use Rattle.rls_explain.specs.rls_meaning.specs.rls_access.specs.rls_guard.specs.{declared.context.Ctx.Ctx, declared.effect.Effect.Effect}
 use Rattle.rls_check.specs.declared.filtering.ShownFilter.{ShownFilter}
 use Rattle.rls_check.specs.declared.walking.Turn.{Turn}
-use Rattle.rls_check.specs.Escaped.{escaped_line}
+use Rattle.rls_audit.specs.rls_printing.specs.Escaped.{escaped_line}
 use Rattle.rls_check.specs.ShownFilters.{is_asked_in, is_narrow, is_wanted}
 use Rattle.rls_check.specs.ShownObjects.{object_line}
 use Rattle.rls_check.specs.ShownRows.{row_text, row_word}

@@ -2,7 +2,7 @@
 use Rattle.std.specs.Prelude.{◌≡◌, ℕ, List, Some, map}
 use Rattle.std.specs.List.{All}
 use Rattle.rls_catalog.specs.State.{State}
-use Rattle.rls_explain.specs.rls_meaning.specs.rls_guard.specs.declared.context.Ctx.{Ctx}
+use Rattle.rls_explain.specs.rls_meaning.specs.rls_access.specs.rls_guard.specs.declared.context.Ctx.{Ctx}
 use Rattle.rls_audit.specs.rls_core.specs.Alone.{effects_alone}
 use Rattle.rls_check.specs.declared.finding.Finding.TheVariants.{Holds}
 use Rattle.rls_check.specs.declared.transaction.Answer.{Answer}

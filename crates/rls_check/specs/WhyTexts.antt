@@ -5,9 +5,9 @@ use Rattle.std.specs.List.{flat_map}
 use Rattle.rls_value.specs.{declared.row.RowId.RowId, declared.tag.Tag.Tag, Refusals.code_of, Refusals.refusal_text, Words.tag_text}
 use Rattle.rls_value.specs.declared.tag.Tag.TheVariants as t
 use Rattle.rls_statement.specs.Tags.{tag_of}
-use Rattle.rls_explain.specs.rls_meaning.specs.rls_guard.specs.{declared.reply.Reply.Reply, declared.reply.Decision.Decision, declared.effect.Effect.Effect}
-use Rattle.rls_explain.specs.rls_meaning.specs.rls_guard.specs.declared.reply.Reply.TheVariants as r
-use Rattle.rls_explain.specs.rls_meaning.specs.rls_guard.specs.declared.effect.Effect.TheVariants as effect
+use Rattle.rls_explain.specs.rls_meaning.specs.rls_access.specs.rls_guard.specs.{declared.reply.Reply.Reply, declared.reply.Decision.Decision, declared.effect.Effect.Effect}
+use Rattle.rls_explain.specs.rls_meaning.specs.rls_access.specs.rls_guard.specs.declared.reply.Reply.TheVariants as r
+use Rattle.rls_explain.specs.rls_meaning.specs.rls_access.specs.rls_guard.specs.declared.effect.Effect.TheVariants as effect
 use Rattle.rls_audit.specs.{Lines.decisions_of, Printed.printed_text}
 use Rattle.rls_explain.specs.declared.explanation.{Explanation.Explanation, Explained.Explained, Said.Said}
 use Rattle.rls_explain.specs.Texts.{decision_text, said_text}

@@ -2,7 +2,7 @@
 
 ghost use Rattle.std.specs.Prelude.{◌≡◌, ◌↔◌, true, map, IfOk, OnOk};
 ghost use Rattle.rls_catalog.specs.State.{AgreesOn};
-ghost use Rattle.rls_explain.specs.rls_meaning.specs.rls_guard.specs.rls_source.specs.Footprints.{with_reads};
+ghost use Rattle.rls_explain.specs.rls_meaning.specs.rls_access.specs.rls_guard.specs.rls_source.specs.Footprints.{with_reads};
 ghost use Rattle.rls_check.specs.Checking.{wide_of};
 
 use rls_agreement::agrees_on;

@@ -3,7 +3,7 @@
 ghost use Rattle.std.specs.Prelude.{◌≡◌, ◌↔◌, ◌+◌, ◌<◌, true, false, ℕ, Bool, List, length, map, get_or, set, replicate, Some, None, IfOk, OnOk};
 ghost use Rattle.rls_catalog.specs.declared.change.Change.{Change as Changed};
 ghost use Rattle.rls_catalog.specs.Changed.{changed_all};
-ghost use Rattle.rls_explain.specs.rls_meaning.specs.rls_guard.specs.rls_source.specs.Footprints.{with_reads};
+ghost use Rattle.rls_explain.specs.rls_meaning.specs.rls_access.specs.rls_guard.specs.rls_source.specs.Footprints.{with_reads};
 ghost use Rattle.rls_history.specs.Orders.{none_placed, with_placed};
 ghost use Rattle.rls_check.specs.Checking.{AgreeWhere, no_changes, state_by, wide_of};
 ghost use Rattle.rls_check.specs.Committing.{IsCommitting, IsPutOn};

@@ -7,7 +7,6 @@ mod audit;
 mod checking;
 mod committing;
 mod converting;
-mod escaping;
 mod explaining;
 mod filtering;
 mod finding;

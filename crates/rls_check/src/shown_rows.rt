@@ -6,7 +6,7 @@ ghost use Rattle.rls_explain.specs.Texts.{truth_word as spec_truth_word};
 
 use rls_audit::rls_rows::State;
 use rls_catalog::Verdict;
-use rls_explain::rls_guard::rls_source::RowSource;
+use rls_explain::rls_guard::rls_source::Reading;
 use rls_explain::{Reason, RowOutcome, RowWord};
 use rls_expr::Column;
 use rls_value::{Kind, Row, Truth, Value};

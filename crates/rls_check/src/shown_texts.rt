@@ -1,14 +1,13 @@
 //! What a statement did with rows, as lines.
 
 ghost use Rattle.std.specs.Prelude.{◌≡◌, ◌++◌, [], nat_lt, if◌then◌else◌, option_map, filter, length, map, IfOk, OnOk};
-ghost use Rattle.rls_check.specs.Escaped.{escaped_line};
+ghost use Rattle.rls_audit.specs.rls_printing.specs.Escaped.{escaped_line};
 ghost use Rattle.rls_check.specs.ShownFilters.{is_wanted};
 ghost use Rattle.rls_check.specs.ShownRows.{row_text as spec_row_text};
 ghost use Rattle.rls_check.specs.ShownTexts as spec;
 ghost use Rattle.rls_check.specs.Walking.{IsMeant};
 ghost use Rattle.rls_explain.specs.Outcomes.{outcomes_in};
 
-use crate::escaping::push_line;
 use crate::filtering::ShownFilter;
 use crate::finding::Finding;
 use crate::shown_objects::push_object;
@@ -16,7 +15,9 @@ use crate::shown_rows::{row_text, row_word};
 use crate::texts::came_text;
 use crate::walking::Turn;
 use rls_audit::printed;
+use rls_audit::rls_printing::push_escaped_line;
 use rls_audit::rls_rows::State;
+use rls_explain::rls_guard::rls_source::RowSource;
 use rls_explain::{RowOutcome, RowWord, outcomes};
 use rls_statement::Statement;
 use rls_value::{Items, Name};
@@ -110,10 +111,10 @@ impl Turn {
         requires { IsMeant self.now }
         ensures { IfOk result (λ rows. rows.items ≡ filter (is_wanted wanted.now) (outcomes_in self.now.before self.now.ctx self.now.statement self.now.outcome.footprint)) }
     {
-        let mut source = self.before.view();
+        let source = self.before.view();
         let rows = outcomes(
             alloc,
-            &mut source,
+            source.catalog(),
             &self.ctx,
             self.statement.get(),
             &self.outcome.effect,
@@ -131,7 +132,7 @@ impl Turn {
         let printed = printed(alloc, self.statement.get())?;
         let line = format!(in alloc; "txn {txn} statement {number} role {role}: {printed}")?;
         drop(printed);
-        push_line(text, line.as_str())
+        push_escaped_line(text, line.as_str())
     }
 
     fn push_reply(&self, alloc: Global, text: &mut Vec<u8>) -> Result<(), AllocError>
@@ -140,7 +141,7 @@ impl Turn {
         let came = came_text(alloc, self.statement.get().tag(), &self.outcome.effect)?;
         let line = format!(in alloc; "reply: {came}")?;
         drop(came);
-        push_line(text, line.as_str())
+        push_escaped_line(text, line.as_str())
     }
 
     /// Each row on its line, or some of them counted.
@@ -316,7 +317,7 @@ fn push_more(alloc: Global, table: &Name, count: u64, text: &mut Vec<u8>) -> Res
     let more = count - SEEN;
     let rows = rows_word(more);
     let line = format!(in alloc; "  seen {table}: {more} more{rows}")?;
-    push_line(text, line.as_str())
+    push_escaped_line(text, line.as_str())
 }
 
 fn push_row(
@@ -328,7 +329,7 @@ fn push_row(
     ensures { OnOk result (text.new.items ≡ text.old.items ++ escaped_line (spec_row_text state.now one.now)) }
 {
     let line = row_text(alloc, state, one)?;
-    push_line(text, line.as_str())
+    push_escaped_line(text, line.as_str())
 }
 
 fn is_told(one: &RowOutcome) -> bool
@@ -411,7 +412,7 @@ fn push_count(
     let word = row_word(word);
     let rows = rows_word(count as u64);
     let line = format!(in alloc; "  {word} {table}: {count}{rows}")?;
-    push_line(text, line.as_str())
+    push_escaped_line(text, line.as_str())
 }
 
 fn rows_word(count: u64) -> &'static str

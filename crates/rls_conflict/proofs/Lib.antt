@@ -11,6 +11,7 @@ mod RunningLemmas
 mod OneLemmas
 mod EntryLemmas
 mod PlaceListLemmas
+mod SinceLemmas
 mod MemberLemmas
 mod EdgeLemmas
 mod UpdaterLemmas

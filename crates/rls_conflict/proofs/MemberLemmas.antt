@@ -1,5 +1,5 @@
 -- What is in a list, found by a test.
-use Rattle.std.specs.Prelude.{◌≡◌, refl, ℕ, zero, suc, List, [], ◌∷◌, ◌<◌, ◌≤◌, Bool, true, false, nat_eq, length, drop, cond, slice_get, Option, Some, None}
+use Rattle.std.specs.Prelude.{◌≡◌, refl, ℕ, zero, suc, List, [], ◌∷◌, ◌<◌, ◌≤◌, Bool, true, false, ◌||◌, nat_eq, length, drop, cond, slice_get, Option, Some, None}
 use Rattle.std.specs.BTreeMap.{is_at}
 use Rattle.std.specs.List.{list_any, Contains}
 use Rattle.std.specs.List.Sorted.{IsStrictlySortedBy}
@@ -7,7 +7,7 @@ use Rattle.std.specs.Map.{keys_of}
 use Rattle.std.specs.Option.{is_some}
 use Rattle.std.specs.Ordering.{nat_cmp}
 use Rattle.std.proofs.Common.{ap, sym, ◌∙◌, inl, inr, arith}
-use Rattle.std.proofs.lemmas.Bool.{true≢false}
+use Rattle.std.proofs.lemmas.Bool.{true≢false, or_left, or_right}
 use Rattle.std.proofs.lemmas.Cmp.{eq_by_cmp_equiv, nat_cmp_total}
 use Rattle.std.proofs.lemmas.Map.Keys.{IsDistinct-from_sorted}
 use Rattle.std.proofs.lemmas.Map.Views.{lookup-from_Contains}
@@ -99,3 +99,14 @@ found_entry number x (e ∷ entries) found = entry_if (is_at (nat_cmp number) e.
 pub some_is : {X : Type 0} (it : Option X) → is_some it ≡ true → (x : X) × (it ≡ Some x)
 some_is None is = absurd (true≢false (sym is))
 some_is (Some x) is = (x, refl)
+
+key_if : (same : Bool) (b c : Bool) → b ≡ same → (same ≡ false → c ≡ true) → (b || c) ≡ true
+key_if true b c is further = or_left b c is
+key_if false b c is further = or_right b c (further refl)
+
+-- who runs is among the numbers of those that run
+pub runs_number : {X : Type 0} (number : ℕ) (entries : List (ℕ × X)) → is_some (at_number number entries) ≡ true → is_number_in (keys_of entries) number ≡ true
+runs_number number [] is = absurd (true≢false (sym is))
+runs_number number (e ∷ entries) is =
+    key_if (nat_eq number e.0) (nat_eq number e.0) (is_number_in (keys_of entries) number) refl
+    (λ apart. runs_number number entries (sym (ap (λ same. is_some (cond same (Some e.1) (at_number number entries))) (number_at number e.0 ∙ apart)) ∙ is))

@@ -1,12 +1,12 @@
 -- What the index of writers tells of those who wrote an object first.
-use Rattle.std.specs.Prelude.{◌≡◌, refl, ℕ, zero, suc, List, [], ◌∷◌, ◌++◌, ◌<◌, ◌≤◌, Bool, true, false, not, ◌&&◌, ◌||◌, nat_eq, map, filter, drop, cond, slice_get, Option, Some, None, unwrap_or}
+use Rattle.std.specs.Prelude.{◌≡◌, refl, ℕ, zero, suc, List, [], ◌∷◌, ◌++◌, ◌<◌, ◌≤◌, Bool, true, false, not, ◌&&◌, ◌||◌, nat_eq, map, filter, drop, cond, slice_get, Option, Some, None, ◌⊎◌, MatchOption, unwrap_or}
 use Rattle.std.specs.List.{list_any, find}
 use Rattle.std.specs.List.Sorted.{IsStrictlySortedBy}
 use Rattle.std.specs.BTreeMap.{is_at}
 use Rattle.std.specs.Map.{keys_of}
 use Rattle.std.specs.Option.{option_map, is_some}
 use Rattle.std.specs.Ordering.{nat_cmp}
-use Rattle.std.proofs.Common.{ap, sym, ◌∙◌, inl, inr, arith}
+use Rattle.std.proofs.Common.{ap, sym, subst, ◌∙◌, inl, inr, arith}
 use Rattle.std.proofs.lemmas.Bool.{true≢false, or_cases, or_left, or_right, cases_Bool, and_parts, and_from, lt-ltb, ltb-true}
 use Rattle.std.proofs.lemmas.List.Folds.{list_any-append}
 use Rattle.std.proofs.lemmas.Option.{none-some}
@@ -21,7 +21,7 @@ use Rattle.rls_catalog.specs.Writes.{writes, is_written, is_rows_of, key_of_row}
 use Rattle.rls_catalog.proofs.WritesLaws.{covered_writes}
 use Rattle.rls_source.specs.Footprints.{is_object, is_among}
 use Rattle.rls_source.specs.FootprintLaws.{is_object_same, among_footprint}
-use Rattle.rls_siread.specs.Covering.{written_by_all, written_of, covered_of}
+use Rattle.rls_siread.specs.Covering.{written_by_all, written_of}
 use Rattle.rls_siread.specs.Locks.{Locks, commit_of, is_number_in}
 use Rattle.rls_siread.specs.Index.{HolderList, held_at}
 use Rattle.rls_siread.proofs.CoveringLaws.{among_covered_of}
@@ -32,9 +32,10 @@ use Rattle.rls_conflict.specs.Known.{Known, has_number, running_at, is_running}
 use Rattle.rls_conflict.specs.Begun.{Begun, at_number}
 use Rattle.rls_conflict.specs.Kept.{committed_seen, all_committed, running_seen, known_by, AreEntries, NumbersDiffer, IsRecent, IsIndexed}
 use Rattle.rls_conflict.specs.Written.{is_no_key, writes_object, concurrent_with, IsWritten, IsFree}
-use Rattle.rls_conflict.specs.Concurrent.{is_since, is_concurrent_by, is_that_by, has_writer, NoneWrote, HasWritten}
+use Rattle.rls_conflict.specs.declared.committed.Access.TheVariants.{Write}
+use Rattle.rls_conflict.specs.Concurrent.{has_accessed, is_since, is_concurrent_by, is_that_by, is_writer_beside, has_writer, AreWritersBeside, NoneWrote, HasWritten}
 use Rattle.rls_conflict.proofs.WritingLemmas.{any_from_in, in_from_any}
-use Rattle.rls_conflict.proofs.MemberLemmas.{number_in, any_number, in_drop, drop_in, entry_found, found_entry, some_is}
+use Rattle.rls_conflict.proofs.MemberLemmas.{same_test, number_in, any_number, in_drop, drop_in, entry_found, found_entry, some_is, runs_number}
 
 -- where the first one wasn't written, and none of the rest, none was
 pub none_more : (first : Object) (rest : List Object) (writers : List (Object × HolderList)) (locks : Locks) (txn snap : ℕ)
@@ -44,6 +45,28 @@ none_more first rest writers locks txn snap here none object is =
       | inl same ↦ ap (has_writer (is_concurrent_by locks txn snap) writers) ((is_object_same object first).0 same) ∙ here
       | inr more ↦ none object more
     ]
+
+-- who was found among those that run, or among those that committed since, is concurrent and wrote the object; where nobody was
+-- found nobody did
+pub found_beside : (since : List Committed) (running : List (ℕ × Begun)) (locks : Locks) (writers : List (Object × HolderList)) (txn snap : ℕ) (object : Object) → AreWritersBeside since running locks writers txn snap
+    → (one other result : Option ℕ)
+    → MatchOption one (list_any (is_writer_beside locks writers txn snap object) (keys_of running) ≡ false) (λ number. is_writer_beside locks writers txn snap object number ≡ true)
+    → MatchOption other (list_any (has_accessed Write object) since ≡ false) (λ number. list_any (λ it. nat_eq number it.transaction.number && has_accessed Write object it) since ≡ true)
+    → MatchOption result ((one ≡ None) × (other ≡ None)) (λ number. (one ≡ Some number) ⊎ (other ≡ Some number))
+    → MatchOption result (list_any (is_concurrent_by locks txn snap) (held_at writers object) ≡ false) (λ number. list_any (is_that_by locks txn snap number) (held_at writers object) ≡ true)
+found_beside since running locks writers txn snap object beside None None None first second both = beside object (λ number. true) ∙ (λ i. first i || second i)
+found_beside since running locks writers txn snap object beside (Some n) other None first second both = absurd (none-some n (sym both.0))
+found_beside since running locks writers txn snap object beside None (Some n) None first second both = absurd (none-some n (sym both.1))
+found_beside since running locks writers txn snap object beside one other (Some number) first second both = elim both [
+  | inl is ↦
+      (let run = subst (λ (found : Option ℕ). MatchOption found (list_any (is_writer_beside locks writers txn snap object) (keys_of running) ≡ false) (λ n. is_writer_beside locks writers txn snap object n ≡ true)) is first in
+      let parts = and_parts (is_concurrent_by locks txn snap number) (is_number_in (held_at writers object) number) run in
+      any_number (is_that_by locks txn snap number) (held_at writers object) number parts.1 (and_from (nat_eq number number) (is_concurrent_by locks txn snap number) (number_itself number) parts.0))
+  | inr is ↦
+      (let done = subst (λ (found : Option ℕ). MatchOption found (list_any (has_accessed Write object) since ≡ false) (λ n. list_any (λ it. nat_eq n it.transaction.number && has_accessed Write object it) since ≡ true)) is second in
+      beside object (nat_eq number)
+      ∙ or_right (list_any (λ other. nat_eq number other && is_writer_beside locks writers txn snap object other) (keys_of running)) (list_any (λ it. nat_eq number it.transaction.number && has_accessed Write object it) since) done)
+]
 
 -- ---- an object that is written is no table's rows, and to cover it is to write it
 
@@ -191,6 +214,77 @@ module _ (committed : List Committed) (running : List (ℕ × Begun)) (locks : L
       ∙ ap (λ objects. is_among objects object) (entries place other there).covered
       ∙ among_covered_of other.transaction.changes object
 
+  -- those that committed since are concurrent
+  since_concurrent : (place : ℕ) (other : Committed) → slice_get committed place ≡ Some other → it.snap ≤ place → is_concurrent_by locks txn it.snap other.transaction.number ≡ true
+  since_concurrent place other there since =
+      let recent : floor ≤ place = omega arith in
+      let later : it.snap < suc place = omega arith in
+      and_from (not (nat_eq txn other.transaction.number)) (is_since it.snap (commit_of locks other.transaction.number)) (apart place other there)
+      (ap (is_since it.snap) (indexed.marked place other there recent) ∙ lt-ltb it.snap (suc place) later)
+
+  -- one that committed, and is concurrent, committed since
+  recent_since : (number : ℕ) → is_since it.snap (commit_of locks number) ≡ true → (recent : IsRecent committed floor number) → it.snap ≤ recent.place
+  recent_since number since recent =
+      let marked = ap (commit_of locks) (sym recent.number) ∙ indexed.marked recent.place recent.it recent.there recent.recent in
+      let later : it.snap < suc recent.place = ltb-true it.snap (suc recent.place) (sym (ap (is_since it.snap) marked) ∙ since) in
+      omega arith
+
+  -- ---- the concurrent ones that wrote an object, by the index and by themselves
+
+  abbrev by_index : (ℕ → Bool) → ℕ → Bool
+  by_index test number = test number && is_concurrent_by locks txn it.snap number
+
+  abbrev by_run : Object → (ℕ → Bool) → ℕ → Bool
+  by_run object test number = test number && is_writer_beside locks writers txn it.snap object number
+
+  abbrev by_commit : Object → (ℕ → Bool) → Committed → Bool
+  by_commit object test other = test other.transaction.number && has_accessed Write object other
+
+  beside_there : (object : Object) (test : ℕ → Bool) → list_any (by_index test) (held_at writers object) ≡ true
+      → (list_any (by_run object test) (keys_of running) || list_any (by_commit object test) (drop it.snap committed)) ≡ true
+  beside_there object test is =
+      let found = in_from_any (by_index test) (held_at writers object) is in
+      let number = found.0 in
+      let holds = number_in (held_at writers object) number found.1 in
+      let parts = and_parts (test number) (is_concurrent_by locks txn it.snap number) found.2 in
+      let concurrent = and_parts (not (nat_eq txn number)) (is_since it.snap (commit_of locks number)) parts.1 in
+      let run = list_any (by_run object test) (keys_of running) in
+      let done = list_any (by_commit object test) (drop it.snap committed) in
+      elim (indexed.no_writer number object holds) [
+        | inl runs' ↦ or_left run done (any_number (by_run object test) (keys_of running) number (runs_number number running runs')
+            (and_from (test number) (is_writer_beside locks writers txn it.snap object number) parts.0
+            (and_from (is_concurrent_by locks txn it.snap number) (is_number_in (held_at writers object) number) parts.1 holds)))
+        | inr recent ↦
+            (let other = recent.it in
+            or_right run done (any_from_in (by_commit object test) other (drop it.snap committed) (drop_in other it.snap recent.place committed (recent_since number concurrent.1 recent) recent.there)
+            (and_from (test other.transaction.number) (has_accessed Write object other) (ap test recent.number ∙ parts.0)
+            (sym (indexed.covered recent.place other recent.there recent.recent object) ∙ ap (is_number_in (held_at writers object)) recent.number ∙ holds))))
+      ]
+
+  beside_back : (object : Object) (test : ℕ → Bool) → (list_any (by_run object test) (keys_of running) || list_any (by_commit object test) (drop it.snap committed)) ≡ true
+      → list_any (by_index test) (held_at writers object) ≡ true
+  beside_back object test is = elim (or_cases (list_any (by_run object test) (keys_of running)) (list_any (by_commit object test) (drop it.snap committed)) is) [
+    | inl run ↦
+        (let found = in_from_any (by_run object test) (keys_of running) run in
+        let parts = and_parts (test found.0) (is_writer_beside locks writers txn it.snap object found.0) found.2 in
+        let wrote = and_parts (is_concurrent_by locks txn it.snap found.0) (is_number_in (held_at writers object) found.0) parts.1 in
+        any_number (by_index test) (held_at writers object) found.0 wrote.1 (and_from (test found.0) (is_concurrent_by locks txn it.snap found.0) parts.0 wrote.0))
+    | inr done ↦
+        (let found = in_from_any (by_commit object test) (drop it.snap committed) done in
+        let other = found.0 in
+        let at_place = in_drop other it.snap committed found.1 in
+        let since : it.snap ≤ at_place.0 = at_place.1 in
+        let recent : floor ≤ at_place.0 = omega arith in
+        let parts = and_parts (test other.transaction.number) (has_accessed Write object other) found.2 in
+        any_number (by_index test) (held_at writers object) other.transaction.number (indexed.covered at_place.0 other at_place.2 recent object ∙ parts.1)
+        (and_from (test other.transaction.number) (is_concurrent_by locks txn it.snap other.transaction.number) parts.0 (since_concurrent at_place.0 other at_place.2 since)))
+  ]
+
+  pub writers_beside : AreWritersBeside (drop it.snap committed) running locks writers txn it.snap
+  writers_beside object test =
+      same_test (list_any (by_index test) (held_at writers object)) (list_any (by_run object test) (keys_of running) || list_any (by_commit object test) (drop it.snap committed))
+      (beside_there object test) (beside_back object test)
+
   found_running_writer : (object : Object) (changes : List Change) → writes_object changes object ≡ true → IsStrictlySortedBy nat_cmp (keys_of running)
       → list_any (λ entry. not (nat_eq txn entry.0) && writes_object entry.1.changes object) running ≡ true → list_any (is_concurrent_by locks txn it.snap) (held_at writers object) ≡ true
   found_running_writer object changes own ordered is =
@@ -208,12 +302,9 @@ module _ (committed : List Committed) (running : List (ℕ × Begun)) (locks : L
       let at_place = in_drop found.0 it.snap committed found.1 in
       let since : it.snap ≤ at_place.0 = at_place.1 in
       let recent : floor ≤ at_place.0 = omega arith in
-      let number = found.0.transaction.number in
-      let later : it.snap < suc at_place.0 = omega arith in
-      any_number (is_concurrent_by locks txn it.snap) (held_at writers object) number
+      any_number (is_concurrent_by locks txn it.snap) (held_at writers object) found.0.transaction.number
       (holds_covered at_place.0 found.0 at_place.2 recent object ∙ sym (written_covered object changes found.0.transaction.changes own) ∙ found.2)
-      (and_from (not (nat_eq txn number)) (is_since it.snap (commit_of locks number)) (apart at_place.0 found.0 at_place.2)
-      (ap (is_since it.snap) (indexed.marked at_place.0 found.0 at_place.2 recent) ∙ lt-ltb it.snap (suc at_place.0) later))
+      (since_concurrent at_place.0 found.0 at_place.2 since)
 
   -- where a concurrent transaction wrote it, the search finds one
   found_writer : (object : Object) (changes : List Change) → writes_object changes object ≡ true → IsStrictlySortedBy nat_cmp (keys_of running)
@@ -248,10 +339,8 @@ module _ (committed : List Committed) (running : List (ℕ × Begun)) (locks : L
   committed_writer : (object : Object) (changes : List Change) (number : ℕ) → writes_object changes object ≡ true → is_number_in (held_at writers object) number ≡ true → is_since it.snap (commit_of locks number) ≡ true
       → IsRecent committed floor number → list_any (λ other. nat_eq number other.transaction.number && writes_object other.transaction.changes object) (drop it.snap committed) ≡ true
   committed_writer object changes number own holds since recent =
-      let marked = ap (commit_of locks) (sym recent.number) ∙ indexed.marked recent.place recent.it recent.there recent.recent in
-      let later : it.snap < suc recent.place = ltb-true it.snap (suc recent.place) (sym (ap (is_since it.snap) marked) ∙ since) in
       any_from_in (λ (other : Committed). nat_eq number other.transaction.number && writes_object other.transaction.changes object) recent.it (drop it.snap committed)
-      (drop_in recent.it it.snap recent.place committed (omega arith) recent.there)
+      (drop_in recent.it it.snap recent.place committed (recent_since number since recent) recent.there)
       (and_from (nat_eq number recent.it.transaction.number) (writes_object recent.it.transaction.changes object) (ap (nat_eq number) recent.number ∙ number_itself number)
       (written_covered object changes recent.it.transaction.changes own ∙ sym (holds_covered recent.place recent.it recent.there recent.recent object) ∙ ap (is_number_in (held_at writers object)) recent.number ∙ holds))
 

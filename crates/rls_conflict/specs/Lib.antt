@@ -6,8 +6,8 @@ pub mod KnownCode
 pub mod Commits
 pub mod Begun
 pub mod Kept
-pub mod Concurrent
 pub mod Search
+pub mod Concurrent
 pub mod Named
 pub mod Dangers
 pub mod Ordering

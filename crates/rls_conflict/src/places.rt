@@ -2,9 +2,11 @@
 
 ghost use Rattle.std.specs.Prelude.{◌≡◌, ℕ, [], ◌||◌, nat_eq, IfOk, OnOk};
 ghost use Rattle.rls_conflict.specs.Commits.{is_place_in};
-ghost use Rattle.rls_conflict.specs.Concurrent.{is_at_place, is_place_of};
+ghost use Rattle.rls_conflict.specs.Concurrent.{is_at_place, is_place_of, has_accessed, holds_since};
 
+use crate::committed::{Access, Committed};
 use rls_siread::Sireads;
+use rls_value::Object;
 use std::alloc::{AllocError, Global};
 use std::collections::BTreeSet;
 use std::marker::Model;
@@ -35,8 +37,46 @@ impl Places {
         }
     }
 
+    /// Puts the places of those that hold the object and committed once so many had. Of all that hold it and all that
+    /// committed since, it goes through those that are fewer.
+    pub(crate) fn note_held(
+        &mut self,
+        sireads: &Sireads,
+        held: &[u64],
+        committed: &[Committed],
+        access: Access,
+        object: &Object,
+        snap: usize,
+    ) -> Result<(), AllocError>
+        requires { (place : ℕ) → is_place_of sireads.now snap held.now place ≡ holds_since (has_accessed access object.now) committed.now snap place }
+        ensures { OnOk result ((place : ℕ) → is_place_in self.new place ≡ (is_place_in self.old place || is_place_of sireads.now snap held.now place)) }
+    {
+        if held.len() <= committed.len().saturating_sub(snap) {
+            return self.note_all(sireads, held, snap);
+        }
+        self.note_since(committed, access, object, snap)
+    }
+
+    /// Puts the places of those that accessed the object and committed once so many had.
+    fn note_since(
+        &mut self,
+        committed: &[Committed],
+        access: Access,
+        object: &Object,
+        snap: usize,
+    ) -> Result<(), AllocError>
+        ensures { OnOk result ((place : ℕ) → is_place_in self.new place ≡ (is_place_in self.old place || holds_since (has_accessed access object.now) committed.now snap place)) }
+    {
+        for place in snap..committed.len() {
+            if committed[place].has_accessed(access, object) {
+                self.put(place)?;
+            }
+        }
+        Ok(())
+    }
+
     /// Puts the places of those that committed once so many had.
-    pub(crate) fn note_all(
+    fn note_all(
         &mut self,
         sireads: &Sireads,
         numbers: &[u64],

@@ -54,8 +54,16 @@ impl Conflicts {
         self.sireads.stands();
         let noted = copy_noted(alloc, &self.sireads, txn)?;
         let covered = covered(alloc, it.changes())?;
-        let read = writers_of(alloc, &self.writers, &self.sireads, &noted, it.snap())?;
-        let readers = readers_of(alloc, &self.sireads, &covered, it.snap())?;
+        let committed = self.committed.as_slice();
+        let read = writers_of(
+            alloc,
+            committed,
+            &self.writers,
+            &self.sireads,
+            &noted,
+            it.snap(),
+        )?;
+        let readers = readers_of(alloc, committed, &self.sireads, &covered, it.snap())?;
         let changes = Delta::from_slice(alloc, it.changes())?;
         let transaction = Share::new(
             alloc,

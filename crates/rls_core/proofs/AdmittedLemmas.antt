@@ -5,7 +5,7 @@ use Rattle.std.proofs.lemmas.Bool.{cases_eq}
 use Rattle.std.proofs.lemmas.Option.{none-some}
 use Rattle.rls_catalog.specs.Changed.{changed_all}
 use Rattle.rls_statement.specs.declared.statement.Statement.{Statement}
-use Rattle.rls_meaning.specs.rls_guard.specs.Effects.{changes_of}
+use Rattle.rls_meaning.specs.rls_access.specs.rls_guard.specs.Effects.{changes_of}
 use Rattle.rls_meaning.specs.rls_access.specs.{Statements.effect_in, Transactions.Begin, Transactions.may_begin, Transactions.first_ctx}
 use Rattle.rls_core.specs.Records.{Record, new_record, record_at, history_by, state_after}
 use Rattle.rls_core.specs.Events.{Event, Running, World, Rules, seen_by, posted_in, is_taken, begin, post, commit, happens, run, after}

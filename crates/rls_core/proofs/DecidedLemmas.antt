@@ -3,7 +3,7 @@ use Rattle.std.specs.Prelude.{◌≡◌, refl, ℕ, ◌<◌, ◌+◌, List, [], 
 use Rattle.std.proofs.Common.{ap, sym, subst, ◌∙◌, arith, length-append}
 use Rattle.std.proofs.lemmas.List.{get_or_append_left, map_push, take_more}
 use Rattle.std.proofs.lemmas.List.Elements.{All-head, All-tail, All-weaker, All-push}
-use Rattle.rls_meaning.specs.rls_guard.specs.declared.reply.Decision.{Decision}
+use Rattle.rls_meaning.specs.rls_access.specs.rls_guard.specs.declared.reply.Decision.{Decision}
 use Rattle.rls_core.specs.declared.decisions.Said.{Said}
 use Rattle.rls_core.specs.Decided.{Decided, said_by, nothing_said, decision_by, decision_of, decisions_by, AreSaid, StandsAt, Extends}
 

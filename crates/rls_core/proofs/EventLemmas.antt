@@ -5,10 +5,10 @@ use Rattle.std.proofs.Common.{ap, sym, subst, ◌∙◌, arith}
 use Rattle.rls_value.specs.declared.object.Object.{Object}
 use Rattle.rls_catalog.specs.State.{State}
 use Rattle.rls_catalog.specs.declared.change.Change.{Change}
-use Rattle.rls_meaning.specs.rls_guard.specs.rls_source.specs.Footprints.{footprint_of}
+use Rattle.rls_meaning.specs.rls_access.specs.rls_guard.specs.rls_source.specs.Footprints.{footprint_of}
 use Rattle.rls_conflict.specs.rls_siread.specs.Promotion.{noted_with}
 use Rattle.rls_statement.specs.declared.statement.Statement.{Statement}
-use Rattle.rls_meaning.specs.rls_guard.specs.{declared.effect.Effect.Effect, Effects.changes_of}
+use Rattle.rls_meaning.specs.rls_access.specs.rls_guard.specs.{declared.effect.Effect.Effect, Effects.changes_of}
 use Rattle.rls_meaning.specs.rls_access.specs.{Statements.step, Statements.effect_in, Transactions.Begin, Transactions.may_begin, Transactions.ctx_after}
 use Rattle.rls_history.specs.Structures.{is_dangerous}
 use Rattle.rls_conflict.specs.Begun.{at_number}

@@ -10,9 +10,9 @@ use Rattle.rls_catalog.specs.State.{State}
 use Rattle.rls_catalog.specs.Changed.{changed, changed_all}
 use Rattle.rls_catalog.specs.SoundRows.{RowsAreSound}
 use Rattle.rls_catalog.specs.declared.change.Change.{Change}
-use Rattle.rls_meaning.specs.rls_guard.specs.rls_source.specs.Footprints.{footprint_of}
+use Rattle.rls_meaning.specs.rls_access.specs.rls_guard.specs.rls_source.specs.Footprints.{footprint_of}
 use Rattle.rls_statement.specs.declared.statement.Statement.{Statement}
-use Rattle.rls_meaning.specs.rls_guard.specs.{declared.context.Ctx.Ctx, declared.effect.Effect.Effect, Effects.changes_of}
+use Rattle.rls_meaning.specs.rls_access.specs.rls_guard.specs.{declared.context.Ctx.Ctx, declared.effect.Effect.Effect, Effects.changes_of}
 use Rattle.rls_meaning.specs.rls_dml.specs.NextRows.{AllFree, InRange}
 use Rattle.rls_meaning.specs.rls_access.specs.{Statements.step, Statements.effect_in, Statements.role_after, Leaving.GoOn}
 use Rattle.rls_conflict.specs.Begun.{at_number}

@@ -12,7 +12,7 @@ use Rattle.rls_catalog.specs.Changed.{opening, changed, changed_all}
 use Rattle.rls_catalog.specs.Contents.{look, shows_content}
 use Rattle.rls_catalog.specs.SoundRows.{RowsAreSound}
 use Rattle.rls_statement.specs.declared.statement.Statement.{Statement}
-use Rattle.rls_meaning.specs.rls_guard.specs.{declared.context.Ctx.Ctx, declared.effect.Effect.Effect, Effects.changes_of}
+use Rattle.rls_meaning.specs.rls_access.specs.rls_guard.specs.{declared.context.Ctx.Ctx, declared.effect.Effect.Effect, Effects.changes_of}
 use Rattle.rls_meaning.specs.rls_dml.specs.NextRows.{AllFree}
 use Rattle.rls_meaning.specs.rls_access.specs.{Statements.effect_in, Transactions.first_ctx, Transactions.ctx_after}
 use Rattle.rls_meaning.specs.Meaning.{StatementMeans}

@@ -1,9 +1,9 @@
 -- An effect is its decisions and what it is without them.
 use Rattle.std.specs.Prelude.{◌≡◌, refl, List, []}
-use Rattle.rls_meaning.specs.rls_guard.specs.Effects.{changes_of}
-use Rattle.rls_meaning.specs.rls_guard.specs.declared.effect.Effect.{Effect}
-use Rattle.rls_meaning.specs.rls_guard.specs.declared.effect.Effect.TheVariants.{Done, Refused}
-use Rattle.rls_meaning.specs.rls_guard.specs.declared.reply.Decision.{Decision}
+use Rattle.rls_meaning.specs.rls_access.specs.rls_guard.specs.Effects.{changes_of}
+use Rattle.rls_meaning.specs.rls_access.specs.rls_guard.specs.declared.effect.Effect.{Effect}
+use Rattle.rls_meaning.specs.rls_access.specs.rls_guard.specs.declared.effect.Effect.TheVariants.{Done, Refused}
+use Rattle.rls_meaning.specs.rls_access.specs.rls_guard.specs.declared.reply.Decision.{Decision}
 use Rattle.rls_core.specs.Posted.{decisions_of, with_decisions, without_decisions}
 
 -- both together are the effect

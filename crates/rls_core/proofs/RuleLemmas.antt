@@ -8,8 +8,8 @@ use Rattle.rls_value.specs.declared.object.Object.{Object}
 use Rattle.rls_catalog.specs.Changed.{opening}
 use Rattle.rls_catalog.specs.Contents.{keyed_in}
 use Rattle.rls_catalog.specs.SoundRows.{RowsAreSound}
-use Rattle.rls_meaning.specs.rls_guard.specs.rls_source.specs.Footprints.{is_object, is_among}
-use Rattle.rls_meaning.specs.rls_guard.specs.rls_source.specs.FootprintLaws.{is_object_same, among_with_reads}
+use Rattle.rls_meaning.specs.rls_access.specs.rls_guard.specs.rls_source.specs.Footprints.{is_object, is_among}
+use Rattle.rls_meaning.specs.rls_access.specs.rls_guard.specs.rls_source.specs.FootprintLaws.{is_object_same, among_with_reads}
 use Rattle.rls_meaning.specs.rls_dml.specs.NextRows.{AllFree}
 use Rattle.rls_history.specs.Structures.{Finds, is_dangerous}
 use Rattle.rls_history.specs.States.{IsAmong}

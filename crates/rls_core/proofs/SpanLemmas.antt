@@ -5,7 +5,7 @@ use Rattle.std.proofs.Common.{ap, sym, subst, ◌∙◌, arith}
 use Rattle.std.proofs.lemmas.List.{append-nil, append_assoc, take_at, drop_at, map-append, get_or_read}
 use Rattle.std.proofs.lemmas.List.Elements.{All-take, All-drop}
 use Rattle.std.proofs.lemmas.List.FromFn.{length-map-range_with_len, get_or-map-range_with_len, map-range_with_len_more}
-use Rattle.rls_meaning.specs.rls_guard.specs.declared.reply.Decision.{Decision}
+use Rattle.rls_meaning.specs.rls_access.specs.rls_guard.specs.declared.reply.Decision.{Decision}
 use Rattle.rls_core.specs.declared.decisions.Said.{Said}
 use Rattle.rls_core.specs.declared.decisions.Span.{Span}
 use Rattle.rls_core.specs.Decided.{Decided, nothing_said, decision_by, decision_of, decisions_by, row_in, rows_in, rows_of, AreSpans, AreSaid}

@@ -10,9 +10,9 @@ use Rattle.rls_catalog.specs.Contents.{Content, look, keyed_in}
 use Rattle.rls_catalog.specs.Bases.{Base, FitsAll, base_of, content_at, row_at, shows}
 use Rattle.rls_catalog.specs.SoundRows.{AreSoundIn, RowsAreSound}
 use Rattle.rls_catalog.proofs.InOrderLaws.{none_ascend}
-use Rattle.rls_meaning.specs.rls_guard.specs.rls_source.specs.Footprints.{footprint_of}
+use Rattle.rls_meaning.specs.rls_access.specs.rls_guard.specs.rls_source.specs.Footprints.{footprint_of}
 use Rattle.rls_statement.specs.declared.statement.Statement.{Statement}
-use Rattle.rls_meaning.specs.rls_guard.specs.{declared.context.Ctx.Ctx, Effects.changes_of, Effects.shown, Keeping.TablesStay}
+use Rattle.rls_meaning.specs.rls_access.specs.rls_guard.specs.{declared.context.Ctx.Ctx, Effects.changes_of, Effects.shown, Keeping.TablesStay}
 use Rattle.rls_meaning.specs.rls_dml.specs.NextRows.{AllFree, next_row}
 use Rattle.rls_meaning.specs.rls_access.specs.{Framing.framed_by, Leaving.GoOn, Statements.step, Statements.effect_in}
 use Rattle.rls_meaning.specs.Meaning.{StatementMeans}

@@ -6,7 +6,7 @@ use Rattle.rls_catalog.specs.declared.change.Change.{Change}
 use Rattle.rls_catalog.specs.State.{State}
 use Rattle.rls_catalog.specs.Changed.{opening, changed_all}
 use Rattle.rls_statement.specs.declared.statement.Statement.{Statement}
-use Rattle.rls_meaning.specs.rls_guard.specs.Effects.{changes_of}
+use Rattle.rls_meaning.specs.rls_access.specs.rls_guard.specs.Effects.{changes_of}
 use Rattle.rls_meaning.specs.rls_access.specs.{Statements.effect_in, Transactions.Begin, Transactions.first_ctx, Transactions.may_begin}
 use Rattle.rls_history.specs.History.{any_below}
 use Rattle.rls_history.specs.States.{put_all}

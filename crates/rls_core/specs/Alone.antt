@@ -5,7 +5,7 @@ use Rattle.rls_catalog.specs.declared.change.Change.{Change}
 use Rattle.rls_catalog.specs.State.{State, AgreesAt, AgreesOn}
 use Rattle.rls_catalog.specs.Changed.{changed_all}
 use Rattle.rls_statement.specs.declared.statement.Statement.{Statement}
-use Rattle.rls_meaning.specs.rls_guard.specs.{declared.context.Ctx.Ctx, declared.effect.Effect.Effect, Effects.changes_of}
+use Rattle.rls_meaning.specs.rls_access.specs.rls_guard.specs.{declared.context.Ctx.Ctx, declared.effect.Effect.Effect, Effects.changes_of}
 use Rattle.rls_meaning.specs.rls_access.specs.Transactions.{first_ctx, ctx_after}
 use Rattle.rls_meaning.specs.Meaning.{effect_of}
 use Rattle.rls_core.specs.Records.{Record, record_at, state_after}

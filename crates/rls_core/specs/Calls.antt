@@ -9,9 +9,9 @@ use Rattle.rls_value.specs.declared.refusal.Limit.TheVariants as limit
 use Rattle.rls_value.specs.declared.refusal.TxnState.TheVariants.{NoneInProgress}
 use Rattle.rls_value.specs.declared.refusal.Cause.{Cause}
 use Rattle.rls_value.specs.declared.refusal.Cause.TheVariants as cause
-use Rattle.rls_meaning.specs.rls_guard.specs.rls_source.specs.Footprints.{footprint_of}
+use Rattle.rls_meaning.specs.rls_access.specs.rls_guard.specs.rls_source.specs.Footprints.{footprint_of}
 use Rattle.rls_statement.specs.declared.statement.Statement.{Statement}
-use Rattle.rls_meaning.specs.rls_guard.specs.{declared.effect.Effect.Effect, Effects.changes_of}
+use Rattle.rls_meaning.specs.rls_access.specs.rls_guard.specs.{declared.effect.Effect.Effect, Effects.changes_of}
 use Rattle.rls_meaning.specs.rls_dml.specs.NextRows.{InRange}
 use Rattle.rls_meaning.specs.rls_access.specs.{Statements.step, Statements.effect_in, Statements.role_after, Transactions.Begin, Transactions.may_begin}
 use Rattle.rls_history.specs.Structures.{is_dangerous}

@@ -7,9 +7,9 @@ use Rattle.rls_catalog.specs.declared.change.Change.{Change}
 use Rattle.rls_catalog.specs.contracts.change.Change as change
 use Rattle.rls_statement.specs.declared.statement.Statement.{Statement}
 use Rattle.rls_statement.specs.contracts.statement.Statement as statement
-use Rattle.rls_meaning.specs.rls_guard.specs.{declared.context.Mode.Mode, declared.effect.Effect.Effect}
-use Rattle.rls_meaning.specs.rls_guard.specs.contracts.context.Mode as mode
-use Rattle.rls_meaning.specs.rls_guard.specs.contracts.effect.Effect as effect
+use Rattle.rls_meaning.specs.rls_access.specs.rls_guard.specs.{declared.context.Mode.Mode, declared.effect.Effect.Effect}
+use Rattle.rls_meaning.specs.rls_access.specs.rls_guard.specs.contracts.context.Mode as mode
+use Rattle.rls_meaning.specs.rls_access.specs.rls_guard.specs.contracts.effect.Effect as effect
 use Rattle.rls_meaning.specs.rls_access.specs.Transactions.{Begin}
 use Rattle.rls_core.specs.Records.{Record}
 

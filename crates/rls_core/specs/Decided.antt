@@ -5,7 +5,7 @@ use Rattle.rls_value.specs.declared.row.RowId.{RowId}
 use Rattle.rls_value.specs.declared.verb.Kind.TheVariants.{Select}
 use Rattle.rls_catalog.specs.declared.verdict.Side.TheVariants.{Old}
 use Rattle.rls_catalog.specs.declared.verdict.Verdict.TheVariants.{Exempt}
-use Rattle.rls_meaning.specs.rls_guard.specs.declared.reply.Decision.{Decision}
+use Rattle.rls_meaning.specs.rls_access.specs.rls_guard.specs.declared.reply.Decision.{Decision}
 use Rattle.rls_core.specs.declared.decisions.Said.{Said}
 use Rattle.rls_core.specs.declared.decisions.Span.{Span}
 

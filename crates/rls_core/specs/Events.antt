@@ -4,9 +4,9 @@ use Rattle.rls_value.specs.declared.object.Object.{Object}
 use Rattle.rls_catalog.specs.declared.change.Change.{Change}
 use Rattle.rls_catalog.specs.State.{State}
 use Rattle.rls_catalog.specs.Changed.{changed_all}
-use Rattle.rls_meaning.specs.rls_guard.specs.rls_source.specs.Footprints.{footprint_of, with_reads}
+use Rattle.rls_meaning.specs.rls_access.specs.rls_guard.specs.rls_source.specs.Footprints.{footprint_of, with_reads}
 use Rattle.rls_statement.specs.declared.statement.Statement.{Statement}
-use Rattle.rls_meaning.specs.rls_guard.specs.{declared.context.Ctx.Ctx, Effects.changes_of}
+use Rattle.rls_meaning.specs.rls_access.specs.rls_guard.specs.{declared.context.Ctx.Ctx, Effects.changes_of}
 use Rattle.rls_meaning.specs.rls_access.specs.{Statements.step, Statements.effect_in, Transactions.Begin, Transactions.may_begin, Transactions.first_ctx, Transactions.ctx_after}
 use Rattle.rls_history.specs.History.{History, any_below}
 use Rattle.rls_history.specs.Structures.{is_dangerous}

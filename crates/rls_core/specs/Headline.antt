@@ -5,7 +5,7 @@ use Rattle.rls_catalog.specs.{declared.stored.Keyed.Keyed, declared.change.Chang
 use Rattle.rls_catalog.specs.Changed.{opening}
 use Rattle.rls_catalog.specs.Bases.{Base, shows}
 use Rattle.rls_catalog.specs.SoundRows.{RowsAreSound}
-use Rattle.rls_meaning.specs.rls_guard.specs.rls_source.specs.Footprints.{is_among}
+use Rattle.rls_meaning.specs.rls_access.specs.rls_guard.specs.rls_source.specs.Footprints.{is_among}
 use Rattle.rls_meaning.specs.rls_dml.specs.NextRows.{AllFree}
 use Rattle.rls_meaning.specs.rls_access.specs.Transactions.{may_begin}
 use Rattle.rls_history.specs.History.{concurrent}

@@ -23,5 +23,4 @@ pub use Rattle.rls_conflict.specs.rls_siread
 pub use Rattle.rls_meaning.specs.rls_access
 pub use Rattle.rls_meaning.specs.rls_ddl
 pub use Rattle.rls_meaning.specs.rls_dml
-pub use Rattle.rls_meaning.specs.rls_guard
 pub use Rattle.rls_rows

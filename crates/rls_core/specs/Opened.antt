@@ -5,7 +5,7 @@ use Rattle.std.specs.BTreeMap.{is_at}
 use Rattle.std.specs.Ordering.{nat_cmp}
 use Rattle.rls_catalog.specs.State.{State}
 use Rattle.rls_catalog.specs.Changed.{changed_all}
-use Rattle.rls_meaning.specs.rls_guard.specs.{declared.context.Ctx.Ctx, Effects.changes_of}
+use Rattle.rls_meaning.specs.rls_access.specs.rls_guard.specs.{declared.context.Ctx.Ctx, Effects.changes_of}
 use Rattle.rls_meaning.specs.rls_access.specs.Transactions.{Begin, first_ctx, ctx_after}
 use Rattle.rls_conflict.specs.Begun.{at_number}
 use Rattle.rls_conflict.specs.Transactions.{Transaction}

@@ -3,10 +3,10 @@ use Rattle.std.specs.Prelude.{List, [], refl}
 use Rattle.std.specs.Coded.{Coded, code_by, coded×}
 use Rattle.rls_statement.specs.declared.statement.Statement.{Statement}
 use Rattle.rls_statement.specs.contracts.statement.Statement as statement
-use Rattle.rls_meaning.specs.rls_guard.specs.declared.effect.Effect.{Effect}
-use Rattle.rls_meaning.specs.rls_guard.specs.declared.effect.Effect.TheVariants.{Done, Refused}
-use Rattle.rls_meaning.specs.rls_guard.specs.contracts.effect.Effect as effect
-use Rattle.rls_meaning.specs.rls_guard.specs.declared.reply.Decision.{Decision}
+use Rattle.rls_meaning.specs.rls_access.specs.rls_guard.specs.declared.effect.Effect.{Effect}
+use Rattle.rls_meaning.specs.rls_access.specs.rls_guard.specs.declared.effect.Effect.TheVariants.{Done, Refused}
+use Rattle.rls_meaning.specs.rls_access.specs.rls_guard.specs.contracts.effect.Effect as effect
+use Rattle.rls_meaning.specs.rls_access.specs.rls_guard.specs.declared.reply.Decision.{Decision}
 
 -- a statement, and what it came to
 pub record Posted : Type 0 where

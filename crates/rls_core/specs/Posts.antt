@@ -1,7 +1,7 @@
 -- Statements that were posted, each with what it came to, and the record of their transaction.
 use Rattle.std.specs.Prelude.{List, map}
 use Rattle.rls_statement.specs.declared.statement.Statement.{Statement}
-use Rattle.rls_meaning.specs.rls_guard.specs.declared.effect.Effect.{Effect}
+use Rattle.rls_meaning.specs.rls_access.specs.rls_guard.specs.declared.effect.Effect.{Effect}
 use Rattle.rls_meaning.specs.rls_access.specs.Transactions.{Begin}
 use Rattle.rls_conflict.specs.Transactions.{Transaction}
 use Rattle.rls_core.specs.Posted.{Posted}

@@ -6,7 +6,7 @@ use Rattle.rls_catalog.specs.declared.change.Change.{Change}
 use Rattle.rls_catalog.specs.State.{State}
 use Rattle.rls_catalog.specs.Changed.{opening, changed_all}
 use Rattle.rls_statement.specs.declared.statement.Statement.{Statement}
-use Rattle.rls_meaning.specs.rls_guard.specs.{declared.context.Mode.TheVariants.Write, declared.effect.Effect.Effect}
+use Rattle.rls_meaning.specs.rls_access.specs.rls_guard.specs.{declared.context.Mode.TheVariants.Write, declared.effect.Effect.Effect}
 use Rattle.rls_meaning.specs.rls_access.specs.Transactions.{Begin}
 use Rattle.rls_history.specs.History.{History}
 use Rattle.rls_conflict.specs.Transactions.{Transaction, history_of}

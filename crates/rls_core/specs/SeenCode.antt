@@ -3,8 +3,8 @@ use Rattle.std.specs.Prelude.{ℕ, List, refl}
 use Rattle.std.specs.Coded.{Coded, code_by, coded×, coded_list, coded_ℕ}
 use Rattle.rls_catalog.specs.State.{State}
 use Rattle.rls_catalog.specs.StateCode.{state_code}
-use Rattle.rls_meaning.specs.rls_guard.specs.declared.context.Ctx.{Ctx}
-use Rattle.rls_meaning.specs.rls_guard.specs.contracts.context.Ctx as ctx
+use Rattle.rls_meaning.specs.rls_access.specs.rls_guard.specs.declared.context.Ctx.{Ctx}
+use Rattle.rls_meaning.specs.rls_access.specs.rls_guard.specs.contracts.context.Ctx as ctx
 use Rattle.rls_meaning.specs.rls_access.specs.Transactions.{Begin}
 use Rattle.rls_core.specs.Posted.{Posted, posted_code}
 use Rattle.rls_core.specs.Records.{Record}

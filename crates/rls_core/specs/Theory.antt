@@ -5,9 +5,9 @@ use Rattle.rls_catalog.specs.declared.change.Change.{Change}
 use Rattle.rls_catalog.specs.State.{State}
 use Rattle.rls_catalog.specs.Changed.{opening}
 use Rattle.rls_catalog.specs.SoundRows.{RowsAreSound}
-use Rattle.rls_meaning.specs.rls_guard.specs.rls_source.specs.Footprints.{footprint_of}
+use Rattle.rls_meaning.specs.rls_access.specs.rls_guard.specs.rls_source.specs.Footprints.{footprint_of}
 use Rattle.rls_statement.specs.declared.statement.Statement.{Statement}
-use Rattle.rls_meaning.specs.rls_guard.specs.{declared.context.Ctx.Ctx, declared.effect.Effect.Effect, Effects.changes_of}
+use Rattle.rls_meaning.specs.rls_access.specs.rls_guard.specs.{declared.context.Ctx.Ctx, declared.effect.Effect.Effect, Effects.changes_of}
 use Rattle.rls_meaning.specs.rls_dml.specs.NextRows.{AllFree}
 use Rattle.rls_meaning.specs.rls_access.specs.{Statements.step, Statements.effect_in, Transactions.Begin, Transactions.first_ctx, Transactions.ctx_after, Transactions.may_begin}
 use Rattle.rls_history.specs.Statements.{Outcome, Statements}

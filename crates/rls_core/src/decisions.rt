@@ -36,8 +36,8 @@ struct Said {
 
 impl Model for Decisions {
     ghost use Rattle.std.specs.Prelude.{List};
-    ghost use Rattle.rls_meaning.specs.rls_guard.specs.declared.reply.Decision.{Decision as Judged};
-    ghost use Rattle.rls_meaning.specs.rls_guard.specs.contracts.reply.Decision as decision;
+    ghost use Rattle.rls_meaning.specs.rls_access.specs.rls_guard.specs.declared.reply.Decision.{Decision as Judged};
+    ghost use Rattle.rls_meaning.specs.rls_access.specs.rls_guard.specs.contracts.reply.Decision as decision;
     ghost use Rattle.std.specs.Coded.{coded_list};
 
     ghost Value = { List Judged };

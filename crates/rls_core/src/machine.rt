@@ -4,7 +4,7 @@ ghost use Rattle.std.specs.Prelude.{◌≡◌, ◌<◌, ◌≤◌, ◌+◌, [], 
 ghost use Rattle.std.specs.Option.{option_map, is_some};
 ghost use Rattle.std.specs.List.{All};
 ghost use Rattle.std.specs.Vec.{vec_capacity};
-ghost use Rattle.rls_meaning.specs.rls_guard.specs.Effects.{changes_of};
+ghost use Rattle.rls_meaning.specs.rls_access.specs.rls_guard.specs.Effects.{changes_of};
 ghost use Rattle.rls_meaning.specs.rls_access.specs.Transactions.{may_begin};
 ghost use Rattle.rls_catalog.specs.Changed.{changed_all};
 ghost use Rattle.rls_rows.specs.States.{newest_of};
@@ -37,7 +37,7 @@ use crate::work::Work;
 use rls_catalog::shared_map::Share;
 use rls_conflict::{Conflicts, Transaction, structures_are_found};
 use rls_meaning::rls_access::{changes_go_on, rows_stay_sound};
-use rls_meaning::rls_guard::rls_source::RowSource;
+use rls_meaning::rls_guard::rls_source::Reading;
 use rls_rows::{State, Versions};
 use rls_statement::Statement;
 use rls_value::{Limit, Refusal, TxnState};

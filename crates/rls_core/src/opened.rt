@@ -3,9 +3,9 @@
 ghost use Rattle.std.specs.Prelude.{◌≡◌, ◌≤◌, [], ◌∷◌, ◌++◌, true, map, Some, IfOk, OnOk, IfErr, OnErr};
 ghost use Rattle.std.specs.Option.{option_map};
 ghost use Rattle.rls_catalog.specs.Changed.{changed_all};
-ghost use Rattle.rls_meaning.specs.rls_guard.specs.Effects.{changes_of};
+ghost use Rattle.rls_meaning.specs.rls_access.specs.rls_guard.specs.Effects.{changes_of};
 ghost use Rattle.rls_meaning.specs.rls_dml.specs.NextRows.{InRange};
-ghost use Rattle.rls_meaning.specs.rls_guard.specs.rls_source.specs.Footprints.{footprint_of};
+ghost use Rattle.rls_meaning.specs.rls_access.specs.rls_guard.specs.rls_source.specs.Footprints.{footprint_of};
 ghost use Rattle.rls_meaning.specs.rls_access.specs.Statements.{step, effect_in, role_after};
 ghost use Rattle.rls_meaning.specs.rls_access.specs.Transactions.{first_ctx};
 ghost use Rattle.rls_conflict.specs.Known.{is_running, running_of, posted, Becomes};

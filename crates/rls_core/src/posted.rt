@@ -1,7 +1,7 @@
 //! A statement that was posted.
 
 ghost use Rattle.std.specs.Prelude.{◌≡◌, IfOk};
-ghost use Rattle.rls_meaning.specs.rls_guard.specs.Effects.{changes_of};
+ghost use Rattle.rls_meaning.specs.rls_access.specs.rls_guard.specs.Effects.{changes_of};
 ghost use Rattle.rls_core.specs.Posted.{decisions_of, without_decisions};
 
 use crate::decisions::Decisions;

@@ -4,7 +4,7 @@ use Rattle.std.specs.Borrow.{Bor}
 use Rattle.std.specs.{List.find, List.list_any, Option.option_copied}
 use Rattle.std.proofs.Common.{ap, ◌∙◌}
 use Rattle.rls_expr.specs.declared.policy.Policy.{Policy}
-use Rattle.rls_catalog.specs.PolicyLists.{is_named, has_policy}
+use Rattle.rls_guard.specs.rls_catalog.specs.PolicyLists.{is_named, has_policy}
 
 some_found : {X : Type 0} (test : X → Bool) (xs : List X) → is_some (find test xs) ≡ list_any test xs
 some_found test [] = refl

@@ -7,7 +7,8 @@ use Rattle.std.proofs.Common.{ap, sym, subst, ◌∙◌}
 use Rattle.std.proofs.{lemmas.Cmp.nat_list_cmp_total, lemmas.Map.Text.is_eq-slice_cmp, lemmas.Slice.Eq.bytes_eq-Decides}
 use Rattle.std.proofs.lemmas.Option.{none-some, same_Some}
 use Rattle.rls_expr.specs.declared.policy.Policy.{Policy}
-use Rattle.rls_catalog.specs.{State.name_order, PolicyLists.InNameOrder, PolicyLists.is_named, PolicyLists.with_replaced}
+use Rattle.rls_guard.specs.rls_catalog.specs.{State.name_order, PolicyLists.InNameOrder, PolicyLists.has_policy, PolicyLists.is_named, PolicyLists.with_policy, PolicyLists.with_replaced, PolicyLists.without_policy}
+use Rattle.rls_guard.specs.rls_catalog.proofs.PolicyListLaws as catalog
 use Rattle.rls_statement.specs.declared.statement.AlterPolicy.{AlterPolicy}
 use Rattle.rls_ddl.specs.AlteringPolicies.{altered, with_altered}
 
@@ -29,6 +30,12 @@ same_names alter (policy ∷ policies) = λ i. same_name (is_named alter.name po
 
 pub altered_in_order : (policies : List Policy) (alter : AlterPolicy) → InNameOrder policies → InNameOrder (with_altered alter policies)
 altered_in_order policies alter order = subst (IsStrictlySortedBy name_order) (sym (same_names alter policies)) order
+
+pub created_in_order : (policies : List Policy) (policy : Policy) → has_policy policies policy.name ≡ false → InNameOrder policies → InNameOrder (with_policy policies policy)
+created_in_order policies policy new order = catalog.created_in_order policies policy new order
+
+pub dropped_in_order : (policies : List Policy) (name : List ℕ) → InNameOrder policies → InNameOrder (without_policy policies name)
+dropped_in_order policies name order = catalog.dropped_in_order policies name order
 
 -- ---- one exchanged
 

@@ -6,9 +6,9 @@ use Rattle.std.proofs.{lemmas.Bool.true≢false, lemmas.List.Quantifiers.positio
 use Rattle.std.proofs.lemmas.List.Elements.{All-nil, All-cons}
 use Rattle.std.proofs.lemmas.Option.{slice_get-get_or, slice_get-map}
 use Rattle.rls_value.specs.{Names.one_of, Giving.and_then, declared.refusal.Refusal.Refusal, declared.refusal.Refusal.TheVariants.Undefined, declared.refusal.NameKind.NameKind}
-use Rattle.rls_catalog.specs.SoundRows.{takes_no_null}
-use Rattle.rls_catalog.proofs.Walks.{bytes_own, bytes_same}
-use Rattle.rls_source.specs.{Named.found_or, Sequences.each_of}
+use Rattle.rls_guard.specs.rls_catalog.specs.SoundRows.{takes_no_null}
+use Rattle.rls_guard.specs.rls_catalog.proofs.Walks.{bytes_own, bytes_same}
+use Rattle.rls_guard.specs.rls_source.specs.{Named.found_or, Sequences.each_of}
 use Rattle.rls_statement.specs.{declared.statement.MarkedColumn.MarkedColumn, declared.statement.CreateTable.CreateTable}
 use Rattle.rls_ddl.specs.CreatingTables.{key_names, key_or_undefined, place_of, place_or_undefined, column_in, table_with}
 

@@ -2,8 +2,8 @@
 use Rattle.std.{specs.Prelude.◌≡◌, specs.Prelude.refl, proofs.Common.◌∙◌, specs.Prelude.ℕ, specs.Prelude.List, specs.Prelude.[], specs.Prelude.◌∷◌, specs.Prelude.Bool, specs.Prelude.true, specs.Prelude.false, specs.Prelude.Result, specs.Prelude.Ok, specs.Prelude.Err, specs.Prelude.IfOk, specs.Prelude.is_some, specs.Prelude.map, specs.List.AllByRecursion}
 use Rattle.rls_value.specs.{declared.refusal.Refusal.Refusal, declared.refusal.Refusal.TheVariants.Duplicate, Giving.and_then, declared.refusal.DefinedKind.DefinedKind}
 use Rattle.rls_expr.specs.{declared.table.TableDef.TableDef, declared.policy.Policy.Policy, Scopes.InScope}
-use Rattle.rls_catalog.specs.{declared.change.Change.Change, declared.grant.Grant.Grant, declared.role.RoleDef.RoleDef, Membership.fresh, SoundRows.RowsAreSound, State.State, State.table_of, Changed.changed, Changed.changed_all, PolicyLists.with_policy, PolicyLists.without_policy}
-use Rattle.rls_source.specs.{Asked.asked_grants, Asked.asked_policies, Asked.asked_role, Askings.Asking, Askings.asked_if, Askings.followed_by, Askings.known, Named.grantees_or_undefined, Named.role_or_undefined, Named.roles_or_undefined, Named.table_or_undefined}
+use Rattle.rls_guard.specs.rls_catalog.specs.{declared.change.Change.Change, declared.grant.Grant.Grant, declared.role.RoleDef.RoleDef, Membership.fresh, SoundRows.RowsAreSound, State.State, State.table_of, Changed.changed, Changed.changed_all, PolicyLists.with_policy, PolicyLists.without_policy}
+use Rattle.rls_guard.specs.rls_source.specs.{Asked.asked_grants, Asked.asked_policies, Asked.asked_role, Askings.Asking, Askings.asked_if, Askings.followed_by, Askings.known, Named.grantees_or_undefined, Named.role_or_undefined, Named.roles_or_undefined, Named.table_or_undefined}
 use Rattle.rls_guard.specs.rls_role.specs.{declared.holding.HeldMembership.HeldMembership, declared.effective_roles.EffectiveRoles.EffectiveRoles, Reaching.effective_roles_of}
 use Rattle.rls_guard.specs.rls_role.specs as members
 use Rattle.rls_guard.specs.rls_grant.specs as privileges

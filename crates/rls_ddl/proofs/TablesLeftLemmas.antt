@@ -5,9 +5,9 @@ use Rattle.std.specs.List.{All, AllByRecursion}
 use Rattle.std.proofs.{Common.ap, Common.sym, Common.subst, Common.◌∙◌, lemmas.Option.none-some}
 use Rattle.rls_value.specs.{declared.refusal.Refusal.Refusal, declared.row.RowId.RowId, Giving.and_then, Values.value_at, declared.refusal.Refusal.TheVariants.Duplicate, declared.refusal.Refusal.TheVariants.Undefined, declared.refusal.DefinedKind.DefinedKind, declared.refusal.NameKind.NameKind}
 use Rattle.rls_expr.specs.declared.table.TableDef.{TableDef}
-use Rattle.rls_catalog.specs.{declared.change.Change.Change, declared.grant.Grant.Grant, declared.stored.Keyed.Keyed, Changed.changed, Changed.changed_all, State.entries_of, State.State, State.table_of, SoundRows.AreSound, SoundRows.AreSoundIn, SoundRows.CarriesKey, SoundRows.RowsAreSound, SoundRows.takes_no_null}
-use Rattle.rls_catalog.proofs.{ContentsLaws.is_name, ContentsLaws.same_name, ContentsLaws.table_of_changed, InOrderLaws.none_ascend}
-use Rattle.rls_source.specs.{Asked.asked_grants, Asked.table_at, Askings.Asking, Askings.known, Named.found_or}
+use Rattle.rls_guard.specs.rls_catalog.specs.{declared.change.Change.Change, declared.grant.Grant.Grant, declared.stored.Keyed.Keyed, Changed.changed, Changed.changed_all, State.entries_of, State.State, State.table_of, SoundRows.AreSound, SoundRows.AreSoundIn, SoundRows.CarriesKey, SoundRows.RowsAreSound, SoundRows.takes_no_null}
+use Rattle.rls_guard.specs.rls_catalog.proofs.{ContentsLaws.is_name, ContentsLaws.same_name, ContentsLaws.table_of_changed, InOrderLaws.none_ascend}
+use Rattle.rls_guard.specs.rls_source.specs.{Asked.asked_grants, Asked.table_at, Askings.Asking, Askings.known, Named.found_or}
 use Rattle.rls_guard.specs.rls_grant.specs.Granting.{own_grants, with_grants}
 use Rattle.rls_guard.specs.{declared.context.Ctx.Ctx, declared.effect.Effect.Effect, Effects.writes, RolePrivileges.ownership, Keeping.IfDone, Keeping.IsNoRow, Keeping.LeavesRows, Keeping.TablesStay}
 use Rattle.rls_statement.specs.{declared.statement.AlterTable.AlterTable, declared.statement.CreateTable.CreateTable, declared.statement.RowSecurity.RowSecurity, declared.statement.RowSecurity.TheVariants.Disable, declared.statement.RowSecurity.TheVariants.Enable, declared.statement.RowSecurity.TheVariants.Force, declared.statement.RowSecurity.TheVariants.NoForce}

@@ -5,11 +5,11 @@ use Rattle.std.specs.Option.{option_or}
 use Rattle.rls_value.specs.{declared.refusal.Refusal.Refusal, declared.refusal.Refusal.TheVariants.Unsupported, declared.verb.PolicyKind.PolicyKind, Giving.and_then, declared.verb.PolicyKind.TheVariants.All, declared.verb.PolicyKind.TheVariants.Only}
 use Rattle.rls_value.specs.declared.verb.Kind.TheVariants as k
 use Rattle.rls_expr.specs.{declared.table.TableDef.TableDef, declared.policy.Grantee.Grantee, declared.policy.Policy.Policy, Resolving.Names, Scopes.InScope}
-use Rattle.rls_catalog.specs.declared.change.Change.TheVariants as change
-use Rattle.rls_catalog.specs.PolicyLists.{is_named}
+use Rattle.rls_guard.specs.rls_catalog.specs.declared.change.Change.TheVariants as change
+use Rattle.rls_guard.specs.rls_catalog.specs.PolicyLists.{is_named}
 use Rattle.rls_statement.specs.declared.statement.AlterPolicy.{AlterPolicy}
 use Rattle.rls_guard.specs.{declared.context.Ctx.Ctx, RolePrivileges.ownership, declared.effect.Effect.Effect, Effects.writes, Naming.named, Naming.names_over}
-use Rattle.rls_source.specs.{Askings.Asking, Askings.known, Askings.followed_by, Asked.asked_policies, Named.table_or_undefined, Named.grantees_or_undefined}
+use Rattle.rls_guard.specs.rls_source.specs.{Askings.Asking, Askings.known, Askings.followed_by, Asked.asked_policies, Named.table_or_undefined, Named.grantees_or_undefined}
 use Rattle.rls_ddl.specs.{Conditions.condition_names, Conditions.condition_fits, Conditions.is_supported, Conditions.both_conditions, NamedPolicies.policy_or_undefined}
 
 -- the roles that are written behind TO have to be there

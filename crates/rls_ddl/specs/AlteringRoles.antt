@@ -1,14 +1,14 @@
 -- ALTER ROLE (PostgreSQL manual): the role has to be there; only a superuser alters it; an attribute that isn't written
 -- stays.
 use Rattle.std.specs.Prelude.{ℕ, List, [], ◌∷◌, Ok, unwrap_or}
-use Rattle.rls_catalog.specs.declared.role.RoleDef.{RoleDef}
-use Rattle.rls_catalog.specs.declared.change.Change.TheVariants as change
+use Rattle.rls_guard.specs.rls_catalog.specs.declared.role.RoleDef.{RoleDef}
+use Rattle.rls_guard.specs.rls_catalog.specs.declared.change.Change.TheVariants as change
 use Rattle.rls_statement.specs.declared.statement.Attributes.{Attributes}
 use Rattle.rls_statement.specs.declared.statement.AlterRole.{AlterRole}
 use Rattle.rls_guard.specs.declared.context.Ctx.{Ctx}
 use Rattle.rls_guard.specs.declared.effect.Effect.{Effect}
-use Rattle.rls_source.specs.Askings.{Asking, known, followed_by}
-use Rattle.rls_source.specs.Named.{role_or_undefined}
+use Rattle.rls_guard.specs.rls_source.specs.Askings.{Asking, known, followed_by}
+use Rattle.rls_guard.specs.rls_source.specs.Named.{role_or_undefined}
 use Rattle.rls_guard.specs.Checks.{superuser_or_denied}
 use Rattle.rls_guard.specs.Effects.{writes}
 

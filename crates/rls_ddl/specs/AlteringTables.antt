@@ -2,14 +2,14 @@
 -- the owner's privileges. The policies stay, also where row security is off.
 use Rattle.std.specs.Prelude.{[], ◌∷◌, Ok, true, false}
 use Rattle.rls_expr.specs.declared.table.TableDef.{TableDef}
-use Rattle.rls_catalog.specs.declared.change.Change.TheVariants as change
+use Rattle.rls_guard.specs.rls_catalog.specs.declared.change.Change.TheVariants as change
 use Rattle.rls_statement.specs.declared.statement.RowSecurity.{RowSecurity}
 use Rattle.rls_statement.specs.declared.statement.RowSecurity.TheVariants.{Enable, Disable, Force, NoForce}
 use Rattle.rls_statement.specs.declared.statement.AlterTable.{AlterTable}
 use Rattle.rls_guard.specs.declared.context.Ctx.{Ctx}
 use Rattle.rls_guard.specs.declared.effect.Effect.{Effect}
-use Rattle.rls_source.specs.Askings.{Asking, known, followed_by}
-use Rattle.rls_source.specs.Named.{table_or_undefined}
+use Rattle.rls_guard.specs.rls_source.specs.Askings.{Asking, known, followed_by}
+use Rattle.rls_guard.specs.rls_source.specs.Named.{table_or_undefined}
 use Rattle.rls_guard.specs.RolePrivileges.{ownership}
 use Rattle.rls_guard.specs.Effects.{writes}
 

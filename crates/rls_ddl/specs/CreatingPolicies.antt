@@ -5,11 +5,11 @@ use Rattle.rls_value.specs.{declared.refusal.Refusal.Refusal, Giving.and_then, d
 use Rattle.rls_value.specs.declared.refusal.DefinedKind.TheVariants as kind
 use Rattle.rls_value.specs.declared.refusal.Limit.TheVariants as limit
 use Rattle.rls_expr.specs.{declared.table.TableDef.TableDef, declared.policy.Policy.Policy, Resolving.Names, Scopes.InScope}
-use Rattle.rls_catalog.specs.declared.change.Change.TheVariants as change
-use Rattle.rls_catalog.specs.PolicyLists.{has_policy, with_policy}
+use Rattle.rls_guard.specs.rls_catalog.specs.declared.change.Change.TheVariants as change
+use Rattle.rls_guard.specs.rls_catalog.specs.PolicyLists.{has_policy, with_policy}
 use Rattle.rls_statement.specs.declared.statement.CreatePolicy.{CreatePolicy}
 use Rattle.rls_guard.specs.{declared.context.Ctx.Ctx, RolePrivileges.ownership, declared.effect.Effect.Effect, Effects.writes}
-use Rattle.rls_source.specs.{Askings.Asking, Askings.known, Askings.followed_by, Asked.asked_policies, Named.table_or_undefined, Named.grantees_or_undefined}
+use Rattle.rls_guard.specs.rls_source.specs.{Askings.Asking, Askings.known, Askings.followed_by, Asked.asked_policies, Named.table_or_undefined, Named.grantees_or_undefined}
 use Rattle.rls_guard.specs.Naming.{named, names_over}
 use Rattle.rls_ddl.specs.Conditions.{condition_names, condition_fits, is_supported, both_conditions}
 

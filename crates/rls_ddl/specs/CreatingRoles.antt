@@ -3,12 +3,12 @@
 use Rattle.std.specs.Prelude.{ℕ, List, [], ◌∷◌, false, Ok, Err, is_some, unwrap_or}
 use Rattle.rls_value.specs.declared.refusal.Refusal.TheVariants.{Duplicate}
 use Rattle.rls_value.specs.declared.refusal.DefinedKind.TheVariants as kind
-use Rattle.rls_catalog.specs.declared.role.RoleDef.{RoleDef}
-use Rattle.rls_catalog.specs.declared.change.Change.TheVariants as change
+use Rattle.rls_guard.specs.rls_catalog.specs.declared.role.RoleDef.{RoleDef}
+use Rattle.rls_guard.specs.rls_catalog.specs.declared.change.Change.TheVariants as change
 use Rattle.rls_statement.specs.{declared.statement.Attributes.Attributes, declared.statement.CreateRole.CreateRole}
 use Rattle.rls_guard.specs.{declared.context.Ctx.Ctx, Checks.superuser_or_denied, declared.effect.Effect.Effect, Effects.writes}
-use Rattle.rls_source.specs.Askings.{Asking, known, asked_if, followed_by}
-use Rattle.rls_source.specs.Asked.{asked_role}
+use Rattle.rls_guard.specs.rls_source.specs.Askings.{Asking, known, asked_if, followed_by}
+use Rattle.rls_guard.specs.rls_source.specs.Asked.{asked_role}
 
 -- an attribute that isn't written is false
 abbrev pub role_with : Attributes → RoleDef

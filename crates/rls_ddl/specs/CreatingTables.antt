@@ -6,11 +6,11 @@ use Rattle.rls_value.specs.{Names.one_of, declared.refusal.Refusal.Refusal, decl
 use Rattle.rls_value.specs.declared.refusal.DefinedKind.TheVariants as kind
 use Rattle.rls_value.specs.declared.refusal.NameKind.TheVariants as named
 use Rattle.rls_expr.specs.{declared.table.Column.Column, declared.table.TableDef.TableDef}
-use Rattle.rls_catalog.specs.declared.change.Change.TheVariants as change
+use Rattle.rls_guard.specs.rls_catalog.specs.declared.change.Change.TheVariants as change
 use Rattle.rls_statement.specs.{declared.statement.CreateTable.CreateTable, declared.statement.MarkedColumn.MarkedColumn}
 use Rattle.rls_guard.specs.{declared.context.Ctx.Ctx, declared.effect.Effect.Effect, Effects.writes}
-use Rattle.rls_source.specs.Askings.{Asking, known, asked_if, followed_by}
-use Rattle.rls_source.specs.{Asked.asked_table, Asked.asked_grants, Named.found_or, Sequences.each_of}
+use Rattle.rls_guard.specs.rls_source.specs.Askings.{Asking, known, asked_if, followed_by}
+use Rattle.rls_guard.specs.rls_source.specs.{Asked.asked_table, Asked.asked_grants, Named.found_or, Sequences.each_of}
 use Rattle.rls_guard.specs.rls_grant.specs.Granting.{own_grants, with_grants}
 
 -- ---- the primary key

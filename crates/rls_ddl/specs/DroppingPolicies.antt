@@ -1,12 +1,12 @@
 -- DROP POLICY (PostgreSQL manual, DROP POLICY): that the policy is there, then that the role has the privileges of the table's owner.
 use Rattle.std.specs.Prelude.{ℕ, List, [], ◌∷◌, Ok}
 use Rattle.rls_expr.specs.{declared.table.TableDef.TableDef, declared.policy.Policy.Policy}
-use Rattle.rls_catalog.specs.declared.change.Change.TheVariants as change
-use Rattle.rls_catalog.specs.PolicyLists.{without_policy}
+use Rattle.rls_guard.specs.rls_catalog.specs.declared.change.Change.TheVariants as change
+use Rattle.rls_guard.specs.rls_catalog.specs.PolicyLists.{without_policy}
 use Rattle.rls_statement.specs.declared.statement.DropPolicy.{DropPolicy}
 use Rattle.rls_guard.specs.{declared.context.Ctx.Ctx, RolePrivileges.ownership, declared.effect.Effect.Effect, Effects.writes}
-use Rattle.rls_source.specs.Askings.{Asking, known, followed_by}
-use Rattle.rls_source.specs.{Asked.asked_policies, Named.table_or_undefined}
+use Rattle.rls_guard.specs.rls_source.specs.Askings.{Asking, known, followed_by}
+use Rattle.rls_guard.specs.rls_source.specs.{Asked.asked_policies, Named.table_or_undefined}
 use Rattle.rls_ddl.specs.NamedPolicies.{policy_or_undefined}
 
 -- the policy goes where the role has the privileges of the table's owner

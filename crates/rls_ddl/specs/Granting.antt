@@ -1,9 +1,9 @@
 -- GRANT and REVOKE (PostgreSQL manual, GRANT and REVOKE), of privileges on tables and on columns of them, and of roles: the
 -- current role asks, and what is asked is written.
 use Rattle.std.specs.Prelude.{List, Ok}
-use Rattle.rls_catalog.specs.declared.change.Change.{Change}
+use Rattle.rls_guard.specs.rls_catalog.specs.declared.change.Change.{Change}
 use Rattle.rls_statement.specs.{declared.statement.GrantPrivileges.GrantPrivileges, declared.statement.GrantRoles.GrantRoles, declared.statement.RevokePrivileges.RevokePrivileges, declared.statement.RevokeRoles.RevokeRoles}
-use Rattle.rls_source.specs.Askings.{Asking, known, followed_by}
+use Rattle.rls_guard.specs.rls_source.specs.Askings.{Asking, known, followed_by}
 use Rattle.rls_guard.specs.rls_role.specs.Granting as members
 use Rattle.rls_guard.specs.rls_role.specs.Revoking as members_left
 use Rattle.rls_guard.specs.rls_grant.specs.Granting as privileges

@@ -5,8 +5,8 @@ use Rattle.rls_value.specs.declared.refusal.Refusal.{Refusal}
 use Rattle.rls_value.specs.declared.refusal.Refusal.TheVariants.{Undefined}
 use Rattle.rls_value.specs.declared.refusal.NameKind.TheVariants as kind
 use Rattle.rls_expr.specs.declared.policy.Policy.{Policy}
-use Rattle.rls_catalog.specs.PolicyLists.{is_named}
-use Rattle.rls_source.specs.Named.{found_or}
+use Rattle.rls_guard.specs.rls_catalog.specs.PolicyLists.{is_named}
+use Rattle.rls_guard.specs.rls_source.specs.Named.{found_or}
 
 -- the policy of that name, which has to be there
 abbrev pub policy_or_undefined : List Policy → List ℕ → Result Policy Refusal

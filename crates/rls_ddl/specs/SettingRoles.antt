@@ -3,14 +3,14 @@ use Rattle.std.specs.Prelude.{◌≡◌, refl, ℕ, List, [], ◌∷◌, Some, B
 use Rattle.std.proofs.Common.{ap, ◌∙◌}
 use Rattle.rls_value.specs.{declared.object.Object.Object, declared.refusal.Refusal.Refusal, declared.refusal.Refusal.TheVariants.Denied}
 use Rattle.rls_value.specs.declared.refusal.Why.TheVariants as why
-use Rattle.rls_catalog.specs.{State.State, State.AgreesOn, Membership.attributes_of, Membership.walk_reads, Paths.has_set, Paths.path_reads, Paths.can_set, Paths.can_set_reads}
-use Rattle.rls_catalog.proofs.{Frames.attributes_frame, PathFrames.path_frame, PathFrames.can_set_frame}
+use Rattle.rls_guard.specs.rls_catalog.specs.{State.State, State.AgreesOn, Membership.attributes_of, Membership.walk_reads, Paths.has_set, Paths.path_reads, Paths.can_set, Paths.can_set_reads}
+use Rattle.rls_guard.specs.rls_catalog.proofs.{Frames.attributes_frame, PathFrames.path_frame, PathFrames.can_set_frame}
 use Rattle.rls_statement.specs.declared.statement.SetRole.{SetRole}
 use Rattle.rls_statement.specs.declared.statement.SetRole.TheVariants as set
 use Rattle.rls_guard.specs.{declared.context.Ctx.Ctx, declared.effect.Effect.Effect}
 use Rattle.rls_guard.specs.declared.effect.Effect.TheVariants as effect
 use Rattle.rls_guard.specs.declared.reply.Reply.TheVariants as reply
-use Rattle.rls_source.specs.{Askings.Asking, Askings.IsFramed, Askings.known, Askings.followed_by, Named.role_or_undefined}
+use Rattle.rls_guard.specs.rls_source.specs.{Askings.Asking, Askings.IsFramed, Askings.known, Askings.followed_by, Named.role_or_undefined}
 
 -- ---- whether the login may set the role
 

@@ -2,11 +2,11 @@
 
 ghost use Rattle.std.specs.Prelude.{◌≡◌};
 ghost use Rattle.rls_value.specs.Giving.{Gives, borrowed_now};
-ghost use Rattle.rls_catalog.specs.PolicyLists.{has_policy};
+ghost use Rattle.rls_guard.specs.rls_catalog.specs.PolicyLists.{has_policy};
 ghost use Rattle.rls_ddl.specs.NamedPolicies.{policy_or_undefined};
 
-use rls_catalog::{Policies, find_policy};
 use rls_expr::Policy;
+use rls_guard::rls_catalog::{Policies, find_policy};
 use rls_value::{Name, NameKind, Refusal};
 
 /// The policy of that name; undefined where there is none.

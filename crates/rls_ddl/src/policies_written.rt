@@ -3,8 +3,8 @@
 ghost use Rattle.std.specs.Prelude.{◌≡◌, [], ◌∷◌, IfOk};
 ghost use Rattle.rls_guard.specs.Effects.{writes};
 
-use rls_catalog::{Change, Policies};
 use rls_guard::Effect;
+use rls_guard::rls_catalog::{Change, Policies};
 use rls_value::Name;
 use std::alloc::{AllocError, Global};
 

@@ -3,7 +3,7 @@
 ghost use Rattle.std.specs.Prelude.{◌≡◌, map, IfOk};
 ghost use Rattle.rls_value.specs.Giving.{Gives};
 ghost use Rattle.rls_value.specs.Names.{one_of};
-ghost use Rattle.rls_source.specs.Sequences.{each_of};
+ghost use Rattle.rls_guard.specs.rls_source.specs.Sequences.{each_of};
 ghost use Rattle.rls_ddl.specs.CreatingTables as spec;
 ghost use Rattle.rls_ddl.specs.CreatingTables.{key_or_undefined, place_or_undefined};
 

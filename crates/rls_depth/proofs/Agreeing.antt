@@ -4,7 +4,7 @@ use Rattle.std.specs.List.{flat_map}
 use Rattle.std.proofs.Common.{ap}
 use Rattle.rls_value.specs.{declared.value.Value.Value, declared.truth.Truth.Truth, Names.one_of, Values.value_of_truth, Values.truth_in, Values.is_null, declared.value.Value.TheVariants.Null, declared.value.Value.TheVariants.Bool as Flag, declared.truth.Truth.TheVariants.True, declared.truth.Truth.TheVariants.False, Truths.negation_of, Truths.is_true}
 use Rattle.rls_expr.specs.{declared.expr.Sign.Sign, declared.policy.Policy.Policy, Naming.names_of, Naming.query_names, Naming.names_all, Terms.Term, Terms.Terms, Terms.Query, Terms.Literal, Terms.Column, Terms.Var, Terms.CurrentUser, Terms.Compare, Terms.And, Terms.Or, Terms.Not, Terms.IsNull, Terms.IsNotNull, Terms.InList, Terms.NotInList, Terms.Exists, Terms.InSubquery, Terms.NotInSubquery, Terms.Scalar, Terms.Sum, Terms.End, Terms.More, Terms.Select}
-use Rattle.rls_catalog.specs.{State.State, Verdict.verdict_of, Membership.Within}
+use Rattle.rls_guard.specs.rls_catalog.specs.{State.State, Verdict.verdict_of, Membership.Within}
 use Rattle.rls_guard.specs.rls_source.specs.{Readings.Reading, Readings.unread, Readings.read_then, Askings.Asking, Askings.followed_by}
 use Rattle.rls_guard.specs.rls_evaluation.specs.{declared.relation.SecurityQuals.SecurityQuals, Keys.key_of, declared.relation.SecurityQuals.TheVariants.Exempt, declared.relation.SecurityQuals.TheVariants.Policies, Gathering.gathered, Gathering.with_row, Environments.Environment, Environments.inside, Environments.over, Environments.compared, Environments.joined, Environments.number_or_null, Showing.asked_for, Showing.with_judgement, Showing.judgements_on, Showing.allows, Showing.is_allowed, Showing.shown, Showing.verdict_on, Eval.Shows, Eval.and_value, Eval.or_value, Eval.or_equal, Eval.or_item, Eval.item_or, Eval.item_if, Eval.value_of, Eval.together, Eval.sum_of, Eval.sum_from, Eval.has_row, Eval.meets, Eval.among_items, Eval.first_item, Eval.item_of}
 use Rattle.rls_expansion.specs.Used.{entered}

@@ -4,7 +4,7 @@ use Rattle.std.specs.{List.flat_map, Str.bytes_eq}
 use Rattle.std.proofs.{Common.arith, Common.ap, Common.sym, Common.◌∙◌, Common.subst, lemmas.Bool.true≢false, lemmas.Bool.or_left, lemmas.Bool.or_right, lemmas.Slice.Eq.bytes_eq-Decides}
 use Rattle.rls_value.specs.{declared.value.Value.Value, Names.one_of, declared.verb.Kind.Kind}
 use Rattle.rls_expr.specs.{declared.policy.Policy.Policy, declared.table.TableDef.TableDef, Resolving.resolved, Terms.Term, Scopes.InScope, Scopes.known_table}
-use Rattle.rls_catalog.{specs.State.State, specs.Membership.Within, specs.declared.verdict.Side.Side, specs.Verdict.expression_of, proofs.Walks.bytes_own}
+use Rattle.rls_guard.specs.rls_catalog.{specs.State.State, specs.Membership.Within, specs.declared.verdict.Side.Side, specs.Verdict.expression_of, proofs.Walks.bytes_own}
 use Rattle.rls_guard.specs.rls_source.specs.Readings.{unread}
 use Rattle.rls_guard.specs.rls_evaluation.specs.{declared.relation.SecuredRelation.SecuredRelation, Eval.Shows, declared.relation.SecurityQuals.SecurityQuals, Showing.shown, Showing.shows}
 use Rattle.rls_guard.specs.{SecurityQuals.with_condition, SecurityQuals.conditions_of, Naming.names_over}

@@ -4,7 +4,7 @@ use Rattle.std.specs.List.{AllByRecursion, list_any, flat_map}
 use Rattle.std.proofs.{Common.ap, Common.sym, Common.◌∙◌, Common.subst, lemmas.Bool.true≢false}
 use Rattle.rls_value.specs.{declared.refusal.Refusal.Refusal, Giving.and_then, declared.verb.Kind.Kind}
 use Rattle.rls_expr.specs.{declared.policy.Policy.Policy, declared.table.TableDef.TableDef, Naming.names_of, Naming.names_all, Parts.has_query, Parts.have_query, Terms.Term, Terms.Terms, Terms.Literal, Terms.Column, Terms.Var, Terms.CurrentUser, Terms.Compare, Terms.And, Terms.Or, Terms.Not, Terms.IsNull, Terms.IsNotNull, Terms.InList, Terms.NotInList, Terms.Exists, Terms.InSubquery, Terms.NotInSubquery, Terms.Scalar, Terms.Sum, Terms.End, Terms.More}
-use Rattle.rls_catalog.specs.{declared.verdict.Side.Side, Membership.fresh, Membership.Within, State.State, Verdict.chosen, Verdict.exempts}
+use Rattle.rls_guard.specs.rls_catalog.specs.{declared.verdict.Side.Side, Membership.fresh, Membership.Within, State.State, Verdict.chosen, Verdict.exempts}
 use Rattle.rls_guard.specs.rls_source.specs.{Asked.asked_policies, Asked.policies_at, Asked.table_at, Askings.Asking, Askings.asked_if, Askings.followed_by, Askings.known}
 use Rattle.rls_guard.specs.{declared.role_privileges.RolePrivileges.RolePrivileges, RolePrivileges.has_owner}
 use Rattle.rls_recursion.specs.declared.dependency.PolicyDependency.{PolicyDependency}

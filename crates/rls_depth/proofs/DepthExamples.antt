@@ -5,8 +5,8 @@ use Rattle.std.specs.Str.{bytes_eq}
 use Rattle.rls_value.specs.{declared.refusal.Refusal.Refusal, declared.value.Value.Value, declared.value.Value.TheVariants.Int, declared.value.Value.TheVariants.Text, declared.value.ColType.ColType, declared.verb.Kind.Kind, declared.verb.PolicyKind.PolicyKind}
 use Rattle.rls_expr.specs.{declared.expr.Category.Category, declared.expr.Comparison.TheVariants.Equal, declared.policy.Policy.Policy, declared.table.TableDef.TableDef, Terms.Column, Terms.Var, Terms.CurrentUser, Terms.Compare, Terms.InSubquery, Terms.End, Terms.More, Terms.Select, declared.expr.Selects.Selects}
 use Rattle.rls_expr.specs.declared.policy.Grantee.TheVariants as g
-use Rattle.rls_catalog.specs.declared.verdict.Side.TheVariants as side
-use Rattle.rls_catalog.specs.{Membership.nobody, State.State}
+use Rattle.rls_guard.specs.rls_catalog.specs.declared.verdict.Side.TheVariants as side
+use Rattle.rls_guard.specs.rls_catalog.specs.{Membership.nobody, State.State}
 use Rattle.rls_guard.specs.rls_source.specs.Asked.{policies_at, rows_at, table_at}
 use Rattle.rls_guard.specs.rls_evaluation.specs.{declared.relation.SecurityQuals.SecurityQuals, Showing.shows, declared.relation.SecurityQuals.TheVariants.Exempt, declared.relation.SecurityQuals.TheVariants.Policies}
 use Rattle.rls_guard.specs.declared.role_privileges.RolePrivileges.{RolePrivileges}

@@ -4,7 +4,7 @@ use Rattle.std.specs.List.{list_any}
 use Rattle.std.proofs.{Common.ap, Common.sym, Common.◌∙◌, Common.subst, lemmas.Bool.or_left, lemmas.Bool.or_right, lemmas.List.Folds.list_any-append}
 use Rattle.rls_value.specs.{declared.value.Value.Value, declared.verb.Kind.Kind, Names.one_of}
 use Rattle.rls_expr.specs.{declared.policy.Policy.Policy, declared.table.TableDef.TableDef, Scopes.InScope}
-use Rattle.rls_catalog.specs.{declared.verdict.Side.Side, Membership.Within, State.State, State.policies_of, State.table_of, Verdict.chosen, Verdict.exempts, Verdict.expression_of}
+use Rattle.rls_guard.specs.rls_catalog.specs.{declared.verdict.Side.Side, Membership.Within, State.State, State.policies_of, State.table_of, Verdict.chosen, Verdict.exempts, Verdict.expression_of}
 use Rattle.rls_guard.specs.rls_source.specs.{Asked.asked_policies, Asked.policies_at, Askings.asked_if, Askings.followed_by, Askings.known}
 use Rattle.rls_guard.specs.rls_evaluation.specs.{Eval.Shows, declared.relation.SecurityQuals.TheVariants.Policies, Showing.shown, Showing.shows, Showing.verdict_on}
 use Rattle.rls_guard.specs.{declared.role_privileges.RolePrivileges.RolePrivileges, SecurityQuals.quals_from, RolePrivileges.has_owner}

@@ -5,8 +5,8 @@ use Rattle.std.specs.Str.{bytes_eq}
 use Rattle.std.proofs.Common.{ap, sym, subst}
 use Rattle.std.proofs.lemmas.Bool.{true≢false, or_left}
 use Rattle.rls_value.specs.{declared.refusal.Refusal.Refusal, Names.one_of}
-use Rattle.rls_catalog.proofs.Walks.{bytes_own}
-use Rattle.rls_catalog.specs.Membership.{Within}
+use Rattle.rls_guard.specs.rls_catalog.proofs.Walks.{bytes_own}
+use Rattle.rls_guard.specs.rls_catalog.specs.Membership.{Within}
 use Rattle.rls_recursion.specs.{declared.dependency.PolicyDependency.PolicyDependency, declared.progress.Progress.Progress, declared.searching.Reached.Reached}
 use Rattle.rls_recursion.specs.Searching.{has_subquery_of, subquery_tables_of, nothing_yet, put_listed, put_done, Found, Fits, Loops, Deep, found_then, visit_all, visit, searched, told_by, ordered_by}
 use Rattle.rls_depth.proofs.Tables.{within_nothing, within_rest}

@@ -6,8 +6,8 @@ use Rattle.std.proofs.Common.{ap, sym, ◌∙◌}
 use Rattle.std.proofs.{lemmas.Bool.true≢false, lemmas.Map.Text.is_eq-slice_cmp}
 use Rattle.rls_value.specs.{declared.verb.Kind.Kind, Names.one_of}
 use Rattle.rls_expr.specs.{declared.policy.Policy.Policy, declared.table.TableDef.TableDef, Scopes.InScope, Scopes.known_table, Naming.names_of, Naming.query_names, Naming.names_all, Resolving.Names, Resolving.items_of, Resolving.definition_of, Resolving.resolved, Resolving.query_over, Resolving.resolved_all, Terms.Term, Terms.Terms, Terms.Query, Terms.Literal, Terms.Column, Terms.Var, Terms.CurrentUser, Terms.Compare, Terms.And, Terms.Or, Terms.Not, Terms.IsNull, Terms.IsNotNull, Terms.InList, Terms.NotInList, Terms.Exists, Terms.InSubquery, Terms.NotInSubquery, Terms.Scalar, Terms.Sum, Terms.End, Terms.More, Terms.Select, Terms.qualifier_of}
-use Rattle.rls_catalog.specs.{declared.verdict.Side.Side, Verdict.expression_of, Membership.Within, State.State, State.at, State.table_of}
-use Rattle.rls_catalog.proofs.Walks.{bytes_same, bytes_own}
+use Rattle.rls_guard.specs.rls_catalog.specs.{declared.verdict.Side.Side, Verdict.expression_of, Membership.Within, State.State, State.at, State.table_of}
+use Rattle.rls_guard.specs.rls_catalog.proofs.Walks.{bytes_same, bytes_own}
 use Rattle.rls_guard.specs.SecurityQuals.{with_condition, conditions_of}
 use Rattle.rls_expansion.specs.Used.{entered, tables_if}
 use Rattle.rls_depth.proofs.{Using.expression_tables, Tables.first_part, Tables.last_part, Tables.query_table, Tables.query_items, Tables.query_condition, Tables.within_first, Tables.within_last}

@@ -3,8 +3,8 @@ use Rattle.std.specs.Prelude.{◌≡◌, refl, ℕ, ◌≤◌, List, [], ◌++�
 use Rattle.std.proofs.Common.{arith, ap, sym, ◌∙◌, subst}
 use Rattle.rls_value.specs.{declared.verb.Kind.Kind, Names.one_of}
 use Rattle.rls_expr.specs.{declared.policy.Policy.Policy, declared.table.TableDef.TableDef, Scopes.InScope, Scopes.known_table}
-use Rattle.rls_catalog.specs.declared.verdict.Side.TheVariants as side
-use Rattle.rls_catalog.specs.{State.State, State.table_of, Verdict.chosen, Membership.Within}
+use Rattle.rls_guard.specs.rls_catalog.specs.declared.verdict.Side.TheVariants as side
+use Rattle.rls_guard.specs.rls_catalog.specs.{State.State, State.table_of, Verdict.chosen, Membership.Within}
 use Rattle.rls_guard.specs.rls_evaluation.specs.{declared.relation.SecurityQuals.TheVariants.Policies, Showing.shows}
 use Rattle.rls_guard.specs.{declared.role_privileges.RolePrivileges.RolePrivileges, SecurityQuals.quals_from}
 use Rattle.rls_recursion.specs.{declared.dependency.PolicyDependency.PolicyDependency, declared.searching.Reached.Reached, Searching.InOrder, Searching.subquery_tables_in, Searching.ordered_by, Searching.dependency_in, Searching.tables_in}

@@ -7,8 +7,8 @@ use Rattle.std.proofs.lemmas.Slice.Eq.{bytes_eq-Decides}
 use Rattle.rls_value.specs.Names.{one_of}
 use Rattle.rls_expr.specs.{declared.column_name.ColumnName.ColumnName, declared.expr.FromItem.FromItem, declared.expr.Var.Var as VarOf, declared.expr.Selects.Selects, declared.table.Column.Column as ColumnOf, declared.table.TableDef.TableDef, Naming.Step, Naming.Leave, Naming.names_of, Naming.query_names, Naming.names_all, Scopes.Unknown, Scopes.var_in, Resolving.Names, Resolving.inside, Resolving.column_resolved, Resolving.columns_from, Resolving.items_of, Resolving.definition_of, Resolving.resolved, Resolving.query_over, Resolving.resolved_all, Terms.Term, Terms.Terms, Terms.Query, Terms.Literal, Terms.Column, Terms.Var, Terms.CurrentUser, Terms.Compare, Terms.And, Terms.Or, Terms.Not, Terms.IsNull, Terms.IsNotNull, Terms.InList, Terms.NotInList, Terms.Exists, Terms.InSubquery, Terms.NotInSubquery, Terms.Scalar, Terms.Sum, Terms.End, Terms.More, Terms.Select, Terms.qualifier_of, Terms.terms_of}
 use Rattle.rls_expr.specs.declared.expr.Selects.TheVariants as s
-use Rattle.rls_catalog.proofs.Walks.{one_of-append}
-use Rattle.rls_catalog.specs.Membership.{Within}
+use Rattle.rls_guard.specs.rls_catalog.proofs.Walks.{one_of-append}
+use Rattle.rls_guard.specs.rls_catalog.specs.Membership.{Within}
 use Rattle.rls_expansion.specs.Used.{entered, tables_of}
 use Rattle.rls_expansion.proofs.NoTables.{entered-append}
 

@@ -5,9 +5,9 @@ use Rattle.std.proofs.Common.{sym, ◌∙◌, subst}
 use Rattle.std.proofs.lemmas.Bool.{true≢false, or_left, or_right}
 use Rattle.rls_value.specs.{declared.verb.Kind.Kind, Names.one_of}
 use Rattle.rls_expr.specs.{declared.policy.Policy.Policy, Terms.Term}
-use Rattle.rls_catalog.specs.{declared.verdict.Side.Side, Privileges.includes, Membership.Within}
-use Rattle.rls_catalog.specs.Verdict.{chosen, expression_of, is_asked, is_for_kind}
-use Rattle.rls_catalog.proofs.Walks.{one_of-append}
+use Rattle.rls_guard.specs.rls_catalog.specs.{declared.verdict.Side.Side, Privileges.includes, Membership.Within}
+use Rattle.rls_guard.specs.rls_catalog.specs.Verdict.{chosen, expression_of, is_asked, is_for_kind}
+use Rattle.rls_guard.specs.rls_catalog.proofs.Walks.{one_of-append}
 use Rattle.rls_expansion.specs.Used.{Ask, expression_by, is_for_check, is_for_using, tables_asked, tables_by, tables_if, tables_used, tables_where, takes_check, takes_using}
 use Rattle.rls_depth.proofs.Tables.{within_append, within_nothing}
 

@@ -4,8 +4,8 @@ use Rattle.std.specs.{List.AllByRecursion, Result.is_ok, Str.bytes_eq}
 use Rattle.std.proofs.{Common.arith, Common.ap, Common.sym, Common.◌∙◌, Common.subst, Common.append-nil, Common.append_assoc, lemmas.Bool.true≢false, lemmas.List.length-append, lemmas.Option.slice_get_past, lemmas.Option.slice_get_within}
 use Rattle.rls_value.specs.{declared.refusal.Refusal.Refusal, Giving.and_then, Names.one_of}
 use Rattle.rls_expr.specs.{declared.policy.Policy.Policy, declared.table.TableDef.TableDef, Scopes.InScope, Scopes.known_table}
-use Rattle.rls_catalog.specs.{Membership.fresh, Membership.Within, Verdict.exempts, State.State, State.table_of, State.policies_of}
-use Rattle.rls_catalog.proofs.Walks.{left, left_all, fresh_few, one_of_last, among_first, bytes_same, reads_all}
+use Rattle.rls_guard.specs.rls_catalog.specs.{Membership.fresh, Membership.Within, Verdict.exempts, State.State, State.table_of, State.policies_of}
+use Rattle.rls_guard.specs.rls_catalog.proofs.Walks.{left, left_all, fresh_few, one_of_last, among_first, bytes_same, reads_all}
 use Rattle.rls_guard.specs.rls_source.specs.{Asked.asked_policies, Asked.policies_at, Asked.table_at, Askings.asked_if, Askings.followed_by, Askings.known}
 use Rattle.rls_guard.specs.{declared.role_privileges.RolePrivileges.RolePrivileges, RolePrivileges.has_owner}
 use Rattle.rls_recursion.specs.{declared.dependency.PolicyDependency.PolicyDependency, Searching.subquery_tables_in, Searching.subquery_tables_of, Searching.dependency_in, Searching.tables_in}

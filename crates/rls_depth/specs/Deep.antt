@@ -5,8 +5,8 @@ use Rattle.std.specs.List.{AllByRecursion}
 use Rattle.rls_value.specs.{declared.value.Value.Value, declared.verb.Kind.Kind}
 use Rattle.rls_value.specs.declared.verb.Kind.TheVariants as k
 use Rattle.rls_expr.specs.{declared.policy.Policy.Policy, declared.table.TableDef.TableDef, Scopes.InScope}
-use Rattle.rls_catalog.specs.{declared.verdict.Side.Side, State.State, State.policies_of, State.table_of, Verdict.applying_of, Verdict.exempts, Verdict.is_exempt}
-use Rattle.rls_catalog.specs.declared.verdict.Side.TheVariants as side
+use Rattle.rls_guard.specs.rls_catalog.specs.{declared.verdict.Side.Side, State.State, State.policies_of, State.table_of, Verdict.applying_of, Verdict.exempts, Verdict.is_exempt}
+use Rattle.rls_guard.specs.rls_catalog.specs.declared.verdict.Side.TheVariants as side
 use Rattle.rls_guard.specs.rls_source.specs.Askings.{Asking, known}
 use Rattle.rls_guard.specs.rls_evaluation.specs.{declared.relation.SecurityQuals.SecurityQuals, Eval.Shows, declared.relation.SecurityQuals.TheVariants.Exempt, declared.relation.SecurityQuals.TheVariants.Policies, Showing.shown, Showing.verdict_on}
 use Rattle.rls_guard.specs.{declared.quals.RowCheck.RowCheck, declared.role_privileges.RolePrivileges.RolePrivileges, RolePrivileges.has_owner, SecurityQuals.conditions_of, SecurityQuals.quals_from}

@@ -3,7 +3,7 @@ use Rattle.std.specs.Prelude.{ℕ, List, [], Option, Some, None, if◌then◌els
 use Rattle.std.specs.List.{AllByRecursion, flat_map}
 use Rattle.rls_expr.specs.{declared.policy.Policy.Policy, declared.table.TableDef.TableDef, Terms.Term}
 use Rattle.rls_expr.specs.Scopes.{InScope, known_table}
-use Rattle.rls_catalog.specs.Membership.{Within}
+use Rattle.rls_guard.specs.rls_catalog.specs.Membership.{Within}
 use Rattle.rls_guard.specs.rls_evaluation.specs.declared.relation.SecurityQuals.{SecurityQuals}
 use Rattle.rls_guard.specs.rls_evaluation.specs.declared.relation.SecurityQuals.TheVariants.{Exempt, Policies}
 use Rattle.rls_recursion.specs.{declared.dependency.PolicyDependency.PolicyDependency, Searching.dependency_in}

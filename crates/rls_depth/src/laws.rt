@@ -4,7 +4,7 @@ ghost use Rattle.std.specs.Prelude.{◌≡◌, ◌≤◌, ◌++◌, ℕ, suc, Li
 ghost use Rattle.std.specs.Option.{option_map};
 ghost use Rattle.rls_value.specs.{declared.value.Value.Value, Names.one_of, declared.verb.Kind.Kind, declared.verb.Kind.TheVariants.Select};
 ghost use Rattle.rls_expr.specs.{declared.table.TableDef.TableDef, Scopes.InScope, Terms.Term};
-ghost use Rattle.rls_catalog.specs.{declared.verdict.Side.Side, Membership.Within, declared.verdict.Side.TheVariants.Old, declared.verdict.Side.TheVariants.New, State.State, State.table_of};
+ghost use Rattle.rls_guard.specs.rls_catalog.specs.{declared.verdict.Side.Side, Membership.Within, declared.verdict.Side.TheVariants.Old, declared.verdict.Side.TheVariants.New, State.State, State.table_of};
 ghost use Rattle.rls_guard.specs.rls_evaluation.specs.{declared.relation.SecurityQuals.SecurityQuals, Environments.Environment, Eval.value_of, Showing.shows, Showing.is_allowed};
 ghost use Rattle.rls_guard.specs.{declared.role_privileges.RolePrivileges.RolePrivileges, SecurityQuals.quals_from, RolePrivileges.role_privileges_in};
 ghost use Rattle.rls_recursion.specs.{declared.dependency.PolicyDependency.PolicyDependency, declared.searching.Reached.Reached, Searching.ordered_by};

@@ -15,7 +15,7 @@ use Rattle.boxcar.proofs.table.Placed.TheSendSync as Placed
 use Rattle.rls_engine.specs.declared.named.Named as named
 use Rattle.rls_value.proofs.name.Name.TheSendSync as Name
 use Rattle.rls_value.proofs.refusal.Refusal.TheSendSync as Refusal
-use Rattle.rls_core.specs.rls_guard.proofs.context.Ctx.TheSendSync as Ctx
+use Rattle.rls_core.specs.rls_access.specs.rls_guard.proofs.context.Ctx.TheSendSync as Ctx
 use Rattle.shared.proofs.share.Share.TheSendSync as Shared
 use Rattle.rls_engine.proofs.StatementsCross.{statement_send, statement_sync}
 use Rattle.rls_engine.proofs.CoreCrosses.{core_send, core_sync, record_send, record_sync, state_send, state_sync, work_send}

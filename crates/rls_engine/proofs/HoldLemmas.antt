@@ -6,11 +6,11 @@ use Rattle.rls_value.specs.declared.object.Object.{Object}
 use Rattle.rls_value.specs.declared.refusal.Refusal.{Refusal}
 use Rattle.rls_value.specs.declared.refusal.Refusal.TheVariants.{Serial}
 use Rattle.rls_value.specs.declared.refusal.Cause.{Cause}
-use Rattle.rls_core.specs.rls_guard.specs.rls_catalog.specs.State.{State}
-use Rattle.rls_core.specs.rls_guard.specs.rls_catalog.specs.Changed.{changed_all}
-use Rattle.rls_core.specs.rls_guard.specs.rls_source.specs.Footprints.{is_among}
+use Rattle.rls_core.specs.rls_access.specs.rls_guard.specs.rls_catalog.specs.State.{State}
+use Rattle.rls_core.specs.rls_access.specs.rls_guard.specs.rls_catalog.specs.Changed.{changed_all}
+use Rattle.rls_core.specs.rls_access.specs.rls_guard.specs.rls_source.specs.Footprints.{is_among}
 use Rattle.rls_statement.specs.declared.statement.Statement.{Statement}
-use Rattle.rls_core.specs.rls_guard.specs.{declared.effect.Effect.Effect, declared.reply.Reply.Reply, Effects.changes_of}
+use Rattle.rls_core.specs.rls_access.specs.rls_guard.specs.{declared.effect.Effect.Effect, declared.reply.Reply.Reply, Effects.changes_of}
 use Rattle.rls_core.specs.rls_conflict.specs.Transactions.{Transaction, at}
 use Rattle.rls_core.specs.declared.work.Work.{Work}
 use Rattle.rls_core.specs.Records.{Record, transaction_of}

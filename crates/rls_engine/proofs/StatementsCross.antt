@@ -26,12 +26,12 @@ use Rattle.rls_statement.proofs.statement.RevokePrivileges.TheSendSync as Revoke
 use Rattle.rls_statement.proofs.statement.RevokeRoles.TheSendSync as RevokeRoles
 use Rattle.rls_statement.proofs.statement.SetRole.TheSendSync as SetRole
 use Rattle.rls_statement.proofs.command.TransactionCommand.TheSendSync as TransactionCommand
-use Rattle.rls_core.specs.rls_guard.specs.rls_catalog.proofs.change.RowChange.TheSendSync as RowChange
-use Rattle.rls_core.specs.rls_guard.specs.rls_catalog.proofs.grant.Grant.TheSendSync as Grant
-use Rattle.rls_core.specs.rls_guard.specs.rls_catalog.proofs.grants.Grants.TheSendSync as Grants
-use Rattle.rls_core.specs.rls_guard.specs.rls_catalog.proofs.role.Membership.TheSendSync as Membership
-use Rattle.rls_core.specs.rls_guard.specs.rls_catalog.proofs.role.RoleDef.TheSendSync as RoleDef
-use Rattle.rls_core.specs.rls_guard.specs.rls_catalog.proofs.table_rows.Rows.TheSendSync as Rows
+use Rattle.rls_core.specs.rls_access.specs.rls_guard.specs.rls_catalog.proofs.change.RowChange.TheSendSync as RowChange
+use Rattle.rls_core.specs.rls_access.specs.rls_guard.specs.rls_catalog.proofs.grant.Grant.TheSendSync as Grant
+use Rattle.rls_core.specs.rls_access.specs.rls_guard.specs.rls_catalog.proofs.grants.Grants.TheSendSync as Grants
+use Rattle.rls_core.specs.rls_access.specs.rls_guard.specs.rls_catalog.proofs.role.Membership.TheSendSync as Membership
+use Rattle.rls_core.specs.rls_access.specs.rls_guard.specs.rls_catalog.proofs.role.RoleDef.TheSendSync as RoleDef
+use Rattle.rls_core.specs.rls_access.specs.rls_guard.specs.rls_catalog.proofs.table_rows.Rows.TheSendSync as Rows
 use Rattle.shared.proofs.share.Share.TheSendSync as Share
 use Rattle.shared_map.proofs.map.SharedMap.TheSendSync as SharedMap
 use Rattle.shared_map.proofs.list.SharedList.TheSendSync as SharedList
@@ -46,12 +46,12 @@ use Rattle.rls_statement.specs.contracts.changing.Delete as Delete_
 use Rattle.rls_statement.specs.contracts.statement.CreatePolicy as CreatePolicy_
 use Rattle.rls_statement.specs.contracts.statement.AlterPolicy as AlterPolicy_
 use Rattle.rls_statement.specs.contracts.statement.Statement as Statement_
-use Rattle.rls_core.specs.rls_guard.specs.rls_catalog.specs.contracts.lists.NoItems as NoItems_
-use Rattle.rls_core.specs.rls_guard.specs.rls_catalog.specs.contracts.lists.NoItems.TheInside as NoItems_Inside
-use Rattle.rls_core.specs.rls_guard.specs.rls_catalog.specs.contracts.change.Change as Change_
-use Rattle.rls_core.specs.rls_guard.specs.rls_catalog.specs.contracts.change.Delta as Delta_
-use Rattle.rls_core.specs.rls_guard.specs.rls_catalog.specs.contracts.catalog.Catalog as Catalog_
-use Rattle.rls_core.specs.rls_guard.specs.rls_catalog.specs.contracts.catalog.Catalog.TheInside as Catalog_Inside
+use Rattle.rls_core.specs.rls_access.specs.rls_guard.specs.rls_catalog.specs.contracts.lists.NoItems as NoItems_
+use Rattle.rls_core.specs.rls_access.specs.rls_guard.specs.rls_catalog.specs.contracts.lists.NoItems.TheInside as NoItems_Inside
+use Rattle.rls_core.specs.rls_access.specs.rls_guard.specs.rls_catalog.specs.contracts.change.Change as Change_
+use Rattle.rls_core.specs.rls_access.specs.rls_guard.specs.rls_catalog.specs.contracts.change.Delta as Delta_
+use Rattle.rls_core.specs.rls_access.specs.rls_guard.specs.rls_catalog.specs.contracts.catalog.Catalog as Catalog_
+use Rattle.rls_core.specs.rls_access.specs.rls_guard.specs.rls_catalog.specs.contracts.catalog.Catalog.TheInside as Catalog_Inside
 use Rattle.rls_expr.proofs.expr.Expr.TheLaws.TheKnot as knot
 
 -- what is owned, lent and optional, in fields and by itself

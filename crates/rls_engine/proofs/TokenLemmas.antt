@@ -9,11 +9,11 @@ use Rattle.std.proofs.Math.Seq.{get_or-append_seam}
 use Rattle.std.proofs.lemmas.Bool.{cases_lt}
 use Rattle.std.proofs.lemmas.Bool.Decides.{nat_tests}
 use Rattle.std.proofs.lemmas.Option.{none-some, slice_get_within}
-use Rattle.rls_core.specs.rls_guard.specs.rls_catalog.specs.State.{State}
-use Rattle.rls_core.specs.rls_guard.specs.rls_catalog.specs.Changed.{changed, changed_all}
-use Rattle.rls_core.specs.rls_guard.specs.rls_catalog.specs.declared.change.Change.{Change}
+use Rattle.rls_core.specs.rls_access.specs.rls_guard.specs.rls_catalog.specs.State.{State}
+use Rattle.rls_core.specs.rls_access.specs.rls_guard.specs.rls_catalog.specs.Changed.{changed, changed_all}
+use Rattle.rls_core.specs.rls_access.specs.rls_guard.specs.rls_catalog.specs.declared.change.Change.{Change}
 use Rattle.rls_statement.specs.declared.statement.Statement.{Statement}
-use Rattle.rls_core.specs.rls_guard.specs.Effects.{changes_of}
+use Rattle.rls_core.specs.rls_access.specs.rls_guard.specs.Effects.{changes_of}
 use Rattle.rls_core.specs.rls_access.specs.{Statements.effect_in, Transactions.Begin, Transactions.may_begin}
 use Rattle.rls_history.specs.Structures.{is_dangerous}
 use Rattle.rls_core.specs.rls_conflict.specs.Begun.{at_number}

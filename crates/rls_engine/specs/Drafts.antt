@@ -4,9 +4,9 @@ use Rattle.rls_value.specs.declared.refusal.Refusal.{Refusal}
 use Rattle.rls_value.specs.declared.refusal.Refusal.TheVariants.{NoMemory, NoLogin, Limit, Serial, Foreign}
 use Rattle.rls_value.specs.declared.refusal.Cause.TheVariants as cause
 use Rattle.rls_value.specs.declared.refusal.Limit.TheVariants as limit
-use Rattle.rls_core.specs.rls_guard.specs.declared.reply.Reply.{Reply}
-use Rattle.rls_core.specs.rls_guard.specs.declared.effect.Effect.{Effect}
-use Rattle.rls_core.specs.rls_guard.specs.declared.effect.Effect.TheVariants as effect
+use Rattle.rls_core.specs.rls_access.specs.rls_guard.specs.declared.reply.Reply.{Reply}
+use Rattle.rls_core.specs.rls_access.specs.rls_guard.specs.declared.effect.Effect.{Effect}
+use Rattle.rls_core.specs.rls_access.specs.rls_guard.specs.declared.effect.Effect.TheVariants as effect
 use Rattle.rls_statement.specs.declared.statement.Statement.{Statement}
 use Rattle.rls_core.specs.rls_access.specs.Transactions.{Begin, first_ctx}
 use Rattle.rls_core.specs.Records.{new_record}

@@ -1,8 +1,8 @@
 -- How tokens of the two vectors stand to records and transactions.
 use Rattle.std.specs.Prelude.{◌≡◌, ℕ, ◌+◌, ◌<◌, zero, suc, List, length, Option, Some, None, slice_get, slice_index_or}
-use Rattle.rls_core.specs.rls_guard.specs.rls_catalog.specs.State.{State}
-use Rattle.rls_core.specs.rls_guard.specs.rls_catalog.specs.Changed.{opening}
-use Rattle.rls_core.specs.rls_guard.specs.declared.context.Ctx.{Ctx}
+use Rattle.rls_core.specs.rls_access.specs.rls_guard.specs.rls_catalog.specs.State.{State}
+use Rattle.rls_core.specs.rls_access.specs.rls_guard.specs.rls_catalog.specs.Changed.{opening}
+use Rattle.rls_core.specs.rls_access.specs.rls_guard.specs.declared.context.Ctx.{Ctx}
 use Rattle.rls_core.specs.Records.{Record, state_after}
 use Rattle.boxcar.specs.Table.{Shelves, Where, Shows}
 use Rattle.rls_engine.specs.declared.commit.Commit.{Commit}

@@ -1,12 +1,12 @@
 -- What a transaction stands on.
 use Rattle.std.specs.Prelude.{◌≡◌, ℕ, List, [], length, Option, Some, None, refl}
 use Rattle.std.specs.Coded.{Coded, code_by, coded×}
-use Rattle.rls_core.specs.rls_guard.specs.rls_catalog.specs.State.{State}
-use Rattle.rls_core.specs.rls_guard.specs.rls_catalog.specs.StateCode.{state_code}
-use Rattle.rls_core.specs.rls_guard.specs.rls_catalog.specs.Changed.{changed_all}
-use Rattle.rls_core.specs.rls_guard.specs.rls_source.specs.Footprints.{footprint_of}
+use Rattle.rls_core.specs.rls_access.specs.rls_guard.specs.rls_catalog.specs.State.{State}
+use Rattle.rls_core.specs.rls_access.specs.rls_guard.specs.rls_catalog.specs.StateCode.{state_code}
+use Rattle.rls_core.specs.rls_access.specs.rls_guard.specs.rls_catalog.specs.Changed.{changed_all}
+use Rattle.rls_core.specs.rls_access.specs.rls_guard.specs.rls_source.specs.Footprints.{footprint_of}
 use Rattle.rls_statement.specs.declared.statement.Statement.{Statement}
-use Rattle.rls_core.specs.rls_guard.specs.declared.effect.Effect.{Effect}
+use Rattle.rls_core.specs.rls_access.specs.rls_guard.specs.declared.effect.Effect.{Effect}
 use Rattle.rls_core.specs.rls_access.specs.{Statements.step, Statements.effect_in, Statements.role_after, Transactions.Begin, Transactions.first_ctx}
 use Rattle.rls_core.specs.declared.work.Work.{Work}
 use Rattle.rls_core.specs.Records.{Record, new_record, nobody, state_after}

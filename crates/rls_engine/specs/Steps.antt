@@ -7,7 +7,7 @@ use Rattle.rls_value.specs.declared.refusal.Cause.{Cause}
 use Rattle.rls_value.specs.declared.refusal.Cause.TheVariants as cause
 use Rattle.rls_value.specs.declared.refusal.TxnState.TheVariants.{NoneInProgress}
 use Rattle.rls_statement.specs.declared.statement.Statement.{Statement}
-use Rattle.rls_core.specs.rls_guard.specs.Effects.{changes_of}
+use Rattle.rls_core.specs.rls_access.specs.rls_guard.specs.Effects.{changes_of}
 use Rattle.rls_core.specs.rls_access.specs.Transactions.{Begin}
 use Rattle.rls_history.specs.Structures.{is_dangerous}
 use Rattle.rls_core.specs.rls_conflict.specs.Causes.{IsCauseOf}

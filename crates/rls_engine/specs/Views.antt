@@ -3,8 +3,8 @@ use Rattle.std.specs.Prelude.{ℕ, Bool, List, Option, refl}
 use Rattle.std.specs.Coded.{Coded, code_by, coded×, coded_list, coded_option, coded_bool, coded_ℕ}
 use Rattle.rls_value.specs.declared.refusal.Refusal.{Refusal}
 use Rattle.rls_value.specs.contracts.refusal.Refusal as refusal
-use Rattle.rls_core.specs.rls_guard.specs.rls_catalog.specs.State.{State}
-use Rattle.rls_core.specs.rls_guard.specs.rls_catalog.specs.StateCode.{state_code}
+use Rattle.rls_core.specs.rls_access.specs.rls_guard.specs.rls_catalog.specs.State.{State}
+use Rattle.rls_core.specs.rls_access.specs.rls_guard.specs.rls_catalog.specs.StateCode.{state_code}
 use Rattle.rls_statement.specs.declared.statement.Statement.{Statement}
 use Rattle.rls_statement.specs.contracts.statement.Statement as statement
 use Rattle.rls_core.specs.Records.{Record}

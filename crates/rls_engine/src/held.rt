@@ -1,8 +1,8 @@
 //! What a transaction holds outside the lock.
 
 ghost use Rattle.std.specs.Prelude.{◌≡◌, ◌+◌, IfOk, IfSome, IfNone};
-ghost use Rattle.rls_core.specs.rls_guard.specs.rls_catalog.specs.Changed.{changed_all, opening};
-ghost use Rattle.rls_core.specs.rls_guard.specs.Effects.{changes_of};
+ghost use Rattle.rls_core.specs.rls_access.specs.rls_guard.specs.rls_catalog.specs.Changed.{changed_all, opening};
+ghost use Rattle.rls_core.specs.rls_access.specs.rls_guard.specs.Effects.{changes_of};
 ghost use Rattle.rls_core.specs.rls_access.specs.Statements.{role_after};
 ghost use Rattle.rls_core.specs.rls_access.specs.Transactions.{ctx_after};
 ghost use Rattle.rls_engine.specs.Drafts.{told_of};

@@ -2,7 +2,7 @@
 
 ghost use Rattle.std.specs.Prelude.{◌≡◌, [], true, Some, None, MatchOption, IfOk, OnOk, IfErr, OnErr, IfSome, IfNone};
 ghost use Rattle.std.specs.Option.{is_some, option_copied};
-ghost use Rattle.rls_core.specs.rls_guard.specs.rls_catalog.specs.Changed.{opening};
+ghost use Rattle.rls_core.specs.rls_access.specs.rls_guard.specs.rls_catalog.specs.Changed.{opening};
 ghost use Rattle.rls_engine.specs.Stands.{IsWorkOf, sees};
 ghost use Rattle.boxcar.specs.Table.{Shows};
 ghost use Rattle.rls_engine.specs.Drafts.{Posts, IsReceiptOf, IsNoConflict, WhenFailed, WhenRefused, with_pending, without_pending};

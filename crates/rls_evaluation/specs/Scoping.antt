@@ -6,7 +6,7 @@ use Rattle.rls_value.specs.declared.value.Value.TheVariants as v
 use Rattle.rls_evaluation.specs.declared.scope.Scoped.{Scoped, Nothing, Over'}
 use Rattle.rls_evaluation.specs.declared.scope.Env.{Env}
 use Rattle.rls_evaluation.specs.declared.datum.Datum.{Datum}
-use Rattle.rls_evaluation.specs.declared.datum.Datum.TheVariants.{Null, Int, Text, Own, Bool}
+use Rattle.rls_evaluation.specs.declared.datum.Datum.TheVariants.{Null, Int, Text, Own, Name, Bool}
 use Rattle.rls_evaluation.specs.Environments.{Environment}
 
 -- the rows in scope
@@ -24,6 +24,7 @@ datum_value Null = v.Null
 datum_value (Int n) = v.Int n
 datum_value (Text t) = v.Text t.now
 datum_value (Own t) = v.Text t
+datum_value (Name name) = v.Text name.now
 datum_value (Bool b) = v.Bool b
 
 -- the same, if there is one

@@ -1,4 +1,4 @@
-//! Datums: values whose texts stand elsewhere, and what is made of them.
+//! Datums: values whose texts stand elsewhere, and what is made of them, which shares the texts.
 
 ghost use Rattle.std.specs.Prelude.{◌≡◌, IfOk, IfSome};
 ghost use Rattle.rls_value.specs.Giving.{Gives};
@@ -9,7 +9,7 @@ ghost use Rattle.rls_value.specs.declared.value.Value.TheVariants as v;
 ghost use Rattle.rls_evaluation.specs.Scoping.{datum_value, number_value, text_in, text_now};
 
 use rls_expr::{Column, Comparison, Sign};
-use rls_value::{ColType, Refusal, Row, Text, Truth, Value};
+use rls_value::{ColType, Name, Refusal, Row, Text, Truth, Value};
 use std::alloc::{AllocError, Global};
 use std::cmp::Ordering;
 
@@ -19,8 +19,10 @@ pub enum Datum<'a> {
     Null,
     /// A whole number of 128 bits: sums of numbers of 64 bits are exact.
     Int(i128),
-    Text(&'a str),
+    Text(&'a Text),
     Own(Text),
+    /// The text of a role's name.
+    Name(&'a Name),
     Bool(bool),
 }
 
@@ -40,7 +42,7 @@ pub fn datum_of(value: &Value) -> Datum<'_>
     match value {
         Value::Null => Datum::Null,
         Value::Int(number) => Datum::Int(i128::from(*number)),
-        Value::Text(text) => Datum::Text(text.as_str()),
+        Value::Text(text) => Datum::Text(text),
         Value::Bool(flag) => Datum::Bool(*flag),
     }
 }
@@ -72,7 +74,7 @@ impl<'a> Datum<'a> {
         match self {
             Datum::Bool(flag) => Truth::from_bool(*flag),
             Datum::Null => Truth::Unknown,
-            Datum::Int(_) | Datum::Text(_) | Datum::Own(_) => Truth::False,
+            Datum::Int(_) | Datum::Text(_) | Datum::Own(_) | Datum::Name(_) => Truth::False,
         }
     }
 
@@ -81,7 +83,8 @@ impl<'a> Datum<'a> {
     {
         match self {
             Datum::Null => true,
-            Datum::Int(_) | Datum::Text(_) | Datum::Own(_) | Datum::Bool(_) => false,
+            Datum::Int(_) | Datum::Text(_) | Datum::Own(_) | Datum::Name(_) | Datum::Bool(_) =>
+                false,
         }
     }
 
@@ -91,24 +94,26 @@ impl<'a> Datum<'a> {
     {
         match self {
             Datum::Int(number) => Some(*number),
-            Datum::Null | Datum::Text(_) | Datum::Own(_) | Datum::Bool(_) => None,
+            Datum::Null | Datum::Text(_) | Datum::Own(_) | Datum::Name(_) | Datum::Bool(_) => None,
         }
     }
 
-    /// The same value, whose text is its own.
+    /// The same value, whose text is its own, shared with this one.
     pub fn to_own<'b>(&self, alloc: Global) -> Result<Datum<'b>, AllocError>
         ensures { IfOk result (λ own. datum_value own ≡ datum_value self.now) }
     {
         match self {
             Datum::Null => Ok(Datum::Null),
             Datum::Int(number) => Ok(Datum::Int(*number)),
-            Datum::Text(text) => own_text(alloc, *text),
-            Datum::Own(text) => own_text(alloc, text.as_str()),
+            Datum::Text(text) => own_text(*text),
+            Datum::Own(text) => own_text(text),
+            Datum::Name(name) => own_name(alloc, *name),
             Datum::Bool(flag) => Ok(Datum::Bool(*flag)),
         }
     }
 
-    /// The value itself. A number beyond 64 bits, which only a sum can be, is answered as want of memory.
+    /// The value itself, which shares its text. A number beyond 64 bits, which only a sum can be, is answered as want of
+    /// memory.
     pub fn to_value(self, alloc: Global) -> Result<Value, AllocError>
         ensures { IfOk result (λ value. value ≡ datum_value self.entry) }
     {
@@ -118,8 +123,9 @@ impl<'a> Datum<'a> {
                 Ok(number) => Ok(Value::Int(number)),
                 Err(_) => Err(AllocError),
             },
-            Datum::Text(text) => text_value(alloc, text),
+            Datum::Text(text) => text_value(text),
             Datum::Own(text) => Ok(Value::Text(text)),
+            Datum::Name(name) => name_value(alloc, name),
             Datum::Bool(flag) => Ok(Value::Bool(flag)),
         }
     }
@@ -146,13 +152,16 @@ impl<'a> Datum<'a> {
             (Datum::Int(number), ColType::BigInt) => {
                 -9223372036854775808 <= *number && *number <= 9223372036854775807
             }
-            (Datum::Text(_), ColType::Text) | (Datum::Own(_), ColType::Text) => true,
+            (Datum::Text(_), ColType::Text)
+            | (Datum::Own(_), ColType::Text)
+            | (Datum::Name(_), ColType::Text) => true,
             (Datum::Bool(_), ColType::Boolean) => true,
             (_, _) => false,
         }
     }
 
-    /// A copy of the value itself. A number beyond 64 bits, which only a sum can be, is answered as want of memory.
+    /// A copy of the value itself, which shares its text. A number beyond 64 bits, which only a sum can be, is answered as want of
+    /// memory.
     pub fn copy_value(&self, alloc: Global) -> Result<Value, AllocError>
         ensures { IfOk result (λ value. value ≡ datum_value self.now) }
     {
@@ -162,8 +171,9 @@ impl<'a> Datum<'a> {
                 Ok(number) => Ok(Value::Int(number)),
                 Err(_) => Err(AllocError),
             },
-            Datum::Text(text) => text_value(alloc, *text),
-            Datum::Own(text) => text_value(alloc, text.as_str()),
+            Datum::Text(text) => text_value(*text),
+            Datum::Own(text) => text_value(text),
+            Datum::Name(name) => name_value(alloc, *name),
             Datum::Bool(flag) => Ok(Value::Bool(*flag)),
         }
     }
@@ -173,26 +183,45 @@ impl<'a> Datum<'a> {
         ensures { text_now result ≡ text_in (datum_value self.now) }
     {
         match self {
-            Datum::Text(text) => Some(*text),
+            Datum::Text(text) => Some((*text).as_str()),
             Datum::Own(text) => Some(text.as_str()),
+            Datum::Name(name) => Some((*name).as_str()),
             Datum::Null | Datum::Int(_) | Datum::Bool(_) => None,
         }
     }
 }
 
-fn own_text<'b>(alloc: Global, text: &str) -> Result<Datum<'b>, AllocError>
+fn own_text<'b>(text: &Text) -> Result<Datum<'b>, AllocError>
     ensures { IfOk result (λ own. datum_value own ≡ v.Text text.now) }
 {
-    match Text::new(alloc, text) {
+    match text.copy() {
         Ok(text) => Ok(Datum::Own(text)),
         Err(refused) => Err(refused),
     }
 }
 
-fn text_value(alloc: Global, text: &str) -> Result<Value, AllocError>
+fn own_name<'b>(alloc: Global, name: &Name) -> Result<Datum<'b>, AllocError>
+    ensures { IfOk result (λ own. datum_value own ≡ v.Text name.now) }
+{
+    match Text::new(alloc, name.as_str()) {
+        Ok(text) => Ok(Datum::Own(text)),
+        Err(refused) => Err(refused),
+    }
+}
+
+fn text_value(text: &Text) -> Result<Value, AllocError>
     ensures { IfOk result (λ value. value ≡ v.Text text.now) }
 {
-    match Text::new(alloc, text) {
+    match text.copy() {
+        Ok(text) => Ok(Value::Text(text)),
+        Err(refused) => Err(refused),
+    }
+}
+
+fn name_value(alloc: Global, name: &Name) -> Result<Value, AllocError>
+    ensures { IfOk result (λ value. value ≡ v.Text name.now) }
+{
+    match Text::new(alloc, name.as_str()) {
         Ok(text) => Ok(Value::Text(text)),
         Err(refused) => Err(refused),
     }

@@ -45,7 +45,7 @@ pub fn eval<'a, 'c, S: Tables>(
         Node::Literal(value) => Ok(datum_of(value)),
         Node::Column(_) => Ok(Datum::Null),
         Node::Var(var) => Ok(column_value(&env.rows, var.level, var.column)),
-        Node::CurrentUser => Ok(Datum::Text(env.user.as_str())),
+        Node::CurrentUser => Ok(Datum::Name(env.user)),
         Node::Compare(how, left, right) => {
             comparison(alloc, source, execution, visible, *how, left, right, env)
         }

@@ -126,7 +126,7 @@ fn known_value<'a>(expr: &'a Expr, env: &Env<'a>) -> Option<Datum<'a>>
     match expr.node() {
         Node::Literal(value) => Some(datum_of(value)),
         Node::Var(var) => outer_value(var.level, var.column, env),
-        Node::CurrentUser => Some(Datum::Text(env.user.as_str())),
+        Node::CurrentUser => Some(Datum::Name(env.user)),
         _ => None,
     }
 }

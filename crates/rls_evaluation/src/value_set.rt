@@ -7,7 +7,7 @@ ghost use Rattle.rls_value.specs.declared.value.Value.TheVariants as v;
 ghost use Rattle.rls_evaluation.specs.ValueSets.{IsSetOf, IsSetWith, finds, is_flag, is_number, is_text, lets_open, three};
 
 use crate::datum::Datum;
-use rls_value::{Items, Text, Truth, Value};
+use rls_value::{Items, Name, Text, Truth, Value};
 use std::alloc::{AllocError, Global};
 use std::cmp::Ordering;
 use std::collections::BTreeSet;
@@ -149,7 +149,7 @@ impl ValueSet {
         self.values.len()
     }
 
-    /// Whether one of the values is equal to it. No memory is taken but for a text.
+    /// Whether one of the values is equal to it. No memory is taken but for the current role's name.
     pub fn equals_any(&self, alloc: Global, datum: &Datum) -> Result<Truth, AllocError>
         ensures { (items : List SqlValue) → IsSetOf self.now items → IfOk result (λ truth. truth ≡ any_equal (datum_value datum.now) items) }
     {
@@ -182,13 +182,13 @@ impl ValueSet {
         match datum {
             Datum::Null => self.is_some,
             Datum::Int(_) => self.not_numbers,
-            Datum::Text(_) | Datum::Own(_) => self.not_texts,
+            Datum::Text(_) | Datum::Own(_) | Datum::Name(_) => self.not_texts,
             Datum::Bool(_) => self.not_flags,
         }
     }
 }
 
-/// The value in the order of listing; a text is copied.
+/// The value in the order of listing, which shares its text.
 pub fn listed_datum(alloc: Global, datum: &Datum) -> Result<Listed, AllocError>
     ensures { IfOk result (λ listed. listed ≡ datum_value datum.now) }
 {
@@ -215,16 +215,26 @@ fn wide_datum(alloc: Global, datum: &Datum) -> Result<Wide, AllocError>
     match datum {
         Datum::Null => Ok(Wide::Null),
         Datum::Int(number) => Ok(Wide::Int(*number)),
-        Datum::Text(text) => wide_text(alloc, *text),
-        Datum::Own(text) => wide_text(alloc, text.as_str()),
+        Datum::Text(text) => wide_text(*text),
+        Datum::Own(text) => wide_text(text),
+        Datum::Name(name) => wide_name(alloc, *name),
         Datum::Bool(flag) => Ok(Wide::Bool(*flag)),
     }
 }
 
-fn wide_text(alloc: Global, text: &str) -> Result<Wide, AllocError>
+fn wide_text(text: &Text) -> Result<Wide, AllocError>
     ensures { IfOk result (λ value. wide_value value ≡ v.Text text.now) }
 {
-    match Text::new(alloc, text) {
+    match text.copy() {
+        Ok(text) => Ok(Wide::Text(text)),
+        Err(refused) => Err(refused),
+    }
+}
+
+fn wide_name(alloc: Global, name: &Name) -> Result<Wide, AllocError>
+    ensures { IfOk result (λ value. wide_value value ≡ v.Text name.now) }
+{
+    match Text::new(alloc, name.as_str()) {
         Ok(text) => Ok(Wide::Text(text)),
         Err(refused) => Err(refused),
     }

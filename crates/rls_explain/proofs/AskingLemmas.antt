@@ -4,9 +4,9 @@ use Rattle.std.specs.Prelude.{◌≡◌, ℕ, List, Option, Result, Ok, IfOk}
 use Rattle.std.specs.declared.vec.Vec.{Vec}
 use Rattle.std.proofs.Common.{Global, ap, sym, subst, ◌∙◌}
 use Rattle.rls_expr.specs.{declared.table.TableDef.TableDef, Terms.Term}
-use Rattle.rls_meaning.specs.rls_guard.specs.rls_catalog.specs.{declared.stored.Stored.Stored, State.State}
-use Rattle.rls_meaning.specs.rls_guard.specs.rls_evaluation.specs.declared.relation.SecuredRelation.{SecuredRelation}
-use Rattle.rls_meaning.specs.rls_guard.specs.{declared.quals.RowCheck.RowCheck, declared.reply.Decision.Decision}
+use Rattle.rls_meaning.specs.rls_access.specs.rls_guard.specs.rls_catalog.specs.{declared.stored.Stored.Stored, State.State}
+use Rattle.rls_meaning.specs.rls_access.specs.rls_guard.specs.rls_evaluation.specs.declared.relation.SecuredRelation.{SecuredRelation}
+use Rattle.rls_meaning.specs.rls_access.specs.rls_guard.specs.{declared.quals.RowCheck.RowCheck, declared.reply.Decision.Decision}
 use Rattle.rls_judging.specs.{Handed.judged_now, Handed.rows_borrowed, Judging.qualifying_rows_of, ScannedRows.pinned_key, ScannedRows.scanned_rows}
 use Rattle.rls_meaning.specs.rls_depth.proofs.Walking.{ok_same}
 use Rattle.rls_meaning.specs.rls_expansion.specs.declared.expansion.PolicyExpansion.{PolicyExpansion}

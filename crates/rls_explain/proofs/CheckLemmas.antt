@@ -5,11 +5,11 @@ use Rattle.std.proofs.{Common.ap, Common.sym, Common.◌∙◌, Common.subst, le
 use Rattle.rls_value.specs.{declared.row.RowId.RowId, declared.truth.Truth.Truth, declared.value.Value.Value, declared.verb.Kind.Kind, Values.truth_in}
 use Rattle.rls_value.specs.declared.verb.Kind.TheVariants as k
 use Rattle.rls_expr.specs.{declared.policy.Policy.Policy, Scopes.InScope, Terms.Term}
-use Rattle.rls_meaning.specs.rls_guard.specs.rls_catalog.specs.{declared.verdict.Side.Side, Membership.Within, State.State, Verdict.applying_of, Verdict.chosen, Verdict.is_exempt, Verdict.verdict_of}
-use Rattle.rls_meaning.specs.rls_guard.specs.rls_catalog.specs.declared.verdict.Side.TheVariants as side
-use Rattle.rls_meaning.specs.rls_guard.specs.rls_catalog.specs.declared.verdict.Verdict.TheVariants as v
-use Rattle.rls_meaning.specs.rls_guard.specs.rls_evaluation.specs.{declared.relation.SecurityQuals.SecurityQuals, declared.relation.SecurityQuals.TheVariants.Exempt, declared.relation.SecurityQuals.TheVariants.Policies, Environments.Environment, Environments.over, Eval.Shows, Eval.value_of, Showing.shows, Tableless.value_given}
-use Rattle.rls_meaning.specs.rls_guard.specs.{declared.role_privileges.RolePrivileges.RolePrivileges, SecurityQuals.conditions_of, SecurityQuals.quals_from, RolePrivileges.role_privileges_in}
+use Rattle.rls_meaning.specs.rls_access.specs.rls_guard.specs.rls_catalog.specs.{declared.verdict.Side.Side, Membership.Within, State.State, Verdict.applying_of, Verdict.chosen, Verdict.is_exempt, Verdict.verdict_of}
+use Rattle.rls_meaning.specs.rls_access.specs.rls_guard.specs.rls_catalog.specs.declared.verdict.Side.TheVariants as side
+use Rattle.rls_meaning.specs.rls_access.specs.rls_guard.specs.rls_catalog.specs.declared.verdict.Verdict.TheVariants as v
+use Rattle.rls_meaning.specs.rls_access.specs.rls_guard.specs.rls_evaluation.specs.{declared.relation.SecurityQuals.SecurityQuals, declared.relation.SecurityQuals.TheVariants.Exempt, declared.relation.SecurityQuals.TheVariants.Policies, Environments.Environment, Environments.over, Eval.Shows, Eval.value_of, Showing.shows, Tableless.value_given}
+use Rattle.rls_meaning.specs.rls_access.specs.rls_guard.specs.{declared.role_privileges.RolePrivileges.RolePrivileges, SecurityQuals.conditions_of, SecurityQuals.quals_from, RolePrivileges.role_privileges_in}
 use Rattle.rls_meaning.specs.rls_expansion.specs.{declared.expansion.PolicyExpansion.PolicyExpansion, Expanding.asks_of, Expanding.asks_on, Expanding.judges_new, Expanding.judges_old, Expanding.own_tables, Used.Ask, Used.tables_of}
 use Rattle.rls_meaning.specs.rls_depth.{specs.Deep.policies_in, specs.Deep.ruled, specs.Leading.condition_tables, specs.Leading.quals_tables, proofs.Deepening.conditions_tables, proofs.ExpansionLaws.Taken, proofs.Tables.within_first, proofs.Tables.within_last, proofs.Tables.within_nothing, proofs.Using.IsAsk, proofs.Using.chosen_used, proofs.Using.own_ask}
 use Rattle.rls_meaning.specs.{Commands.Command, Commands.own_of, Commands.reads, Evaluating.Shown, Evaluating.value, Expanding.IsExpanded, Expanding.IsExpansionIn, Expanding.check, Expanding.checks, Expanding.checks_if, Expanding.sees, Rows.kinds_of, Rows.shown_to, Showing.truths_in}

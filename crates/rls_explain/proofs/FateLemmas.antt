@@ -3,8 +3,8 @@ use Rattle.std.specs.Prelude.{◌≡◌, refl, Option, Some, None, Bool, true}
 use Rattle.std.proofs.{Common.ap, Common.◌∙◌}
 use Rattle.rls_value.specs.Values.{truth_in}
 use Rattle.rls_expr.specs.Terms.{Term}
-use Rattle.rls_meaning.specs.rls_guard.specs.rls_catalog.specs.{declared.stored.Stored.Stored, Membership.Within, State.State}
-use Rattle.rls_meaning.specs.rls_guard.specs.rls_evaluation.specs.{Environments.Environment, Environments.over, Showing.shows, Tableless.value_given}
+use Rattle.rls_meaning.specs.rls_access.specs.rls_guard.specs.rls_catalog.specs.{declared.stored.Stored.Stored, Membership.Within, State.State}
+use Rattle.rls_meaning.specs.rls_access.specs.rls_guard.specs.rls_evaluation.specs.{Environments.Environment, Environments.over, Showing.shows, Tableless.value_given}
 use Rattle.rls_meaning.specs.rls_expansion.specs.{declared.expansion.PolicyExpansion.PolicyExpansion, Expanding.judges_old, Used.tables_if}
 use Rattle.rls_meaning.specs.{Commands.Command, Expanding.IsExpansionIn, Expanding.sees, Rows.shown_to}
 use Rattle.rls_meaning.proofs.Showing.{sees_told}

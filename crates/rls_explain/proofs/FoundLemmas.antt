@@ -7,13 +7,13 @@ use Rattle.rls_value.specs.declared.refusal.Limit.TheVariants as limit
 use Rattle.rls_value.specs.declared.refusal.NameKind.TheVariants as kind
 use Rattle.rls_value.specs.declared.verb.Kind.TheVariants as k
 use Rattle.rls_expr.specs.{declared.table.Column.Column, declared.table.TableDef.TableDef, Scopes.InScope, Selecting.selected_of, Tables.column_named, Terms.Column as Named, Terms.Term}
-use Rattle.rls_meaning.specs.rls_guard.specs.rls_catalog.specs.{declared.stored.Stored.Stored, declared.verdict.Side.Side, Membership.Within, State.State, State.table_of, Verdict.is_same_kind}
-use Rattle.rls_meaning.specs.rls_guard.specs.rls_catalog.specs.declared.verdict.Side.TheVariants as side
-use Rattle.rls_meaning.specs.rls_guard.specs.rls_source.specs.{Named.found_or, Sequences.each_of}
+use Rattle.rls_meaning.specs.rls_access.specs.rls_guard.specs.rls_catalog.specs.{declared.stored.Stored.Stored, declared.verdict.Side.Side, Membership.Within, State.State, State.table_of, Verdict.is_same_kind}
+use Rattle.rls_meaning.specs.rls_access.specs.rls_guard.specs.rls_catalog.specs.declared.verdict.Side.TheVariants as side
+use Rattle.rls_meaning.specs.rls_access.specs.rls_guard.specs.rls_source.specs.{Named.found_or, Sequences.each_of}
 use Rattle.rls_statement.specs.{declared.changing.Assignment.Assignment, declared.changing.Delete.Delete, declared.changing.Update.Update, declared.statement.Insert.Insert, declared.statement.Select.Select, declared.statement.Selected.Selected, declared.statement.Statement.Statement}
 use Rattle.rls_statement.specs.declared.statement.Statement.TheVariants as statement
-use Rattle.rls_meaning.specs.rls_guard.specs.rls_evaluation.specs.Showing.{shows}
-use Rattle.rls_meaning.specs.rls_guard.specs.declared.context.Ctx.{Ctx}
+use Rattle.rls_meaning.specs.rls_access.specs.rls_guard.specs.rls_evaluation.specs.Showing.{shows}
+use Rattle.rls_meaning.specs.rls_access.specs.rls_guard.specs.declared.context.Ctx.{Ctx}
 use Rattle.rls_judging.specs.ScannedRows.{pinned_key}
 use Rattle.rls_meaning.specs.rls_depth.proofs.{Tables.within_first, Tables.within_last, Walking.and_then_ok, Walking.ok_same}
 use Rattle.rls_meaning.specs.rls_dml.specs.{declared.analysed_insert.AnalysedInsert.AnalysedInsert, declared.analysed_update.AnalysedUpdate.AnalysedUpdate, declared.deleting.AnalysedDelete.AnalysedDelete, declared.selecting.AnalysedSelect.AnalysedSelect, Inserting.numbered, Inserting.tuples_tables, Updating.places_set as places_of_update}

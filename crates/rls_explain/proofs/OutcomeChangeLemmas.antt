@@ -5,9 +5,9 @@ use Rattle.std.proofs.{Common.ap, Common.append-nil, Common.◌∙◌, lemmas.Bo
 use Rattle.rls_value.specs.declared.refusal.Refusal.{Refusal}
 use Rattle.rls_value.specs.{declared.object.Object.Object, Giving.and_then}
 use Rattle.rls_expr.specs.declared.table.TableDef.{TableDef}
-use Rattle.rls_meaning.specs.rls_guard.specs.rls_catalog.specs.{declared.stored.Stored.Stored, State.State, State.rows_of, State.table_of}
-use Rattle.rls_meaning.specs.rls_guard.specs.rls_catalog.specs.declared.verdict.Side.TheVariants as side
-use Rattle.rls_meaning.specs.rls_guard.specs.rls_source.specs.Sequences.{each_of}
+use Rattle.rls_meaning.specs.rls_access.specs.rls_guard.specs.rls_catalog.specs.{declared.stored.Stored.Stored, State.State, State.rows_of, State.table_of}
+use Rattle.rls_meaning.specs.rls_access.specs.rls_guard.specs.rls_catalog.specs.declared.verdict.Side.TheVariants as side
+use Rattle.rls_meaning.specs.rls_access.specs.rls_guard.specs.rls_source.specs.Sequences.{each_of}
 use Rattle.rls_meaning.specs.rls_depth.proofs.{Walking.and_then_ok, Walking.ok_same}
 use Rattle.rls_meaning.specs.{Commands.Command, Commands.closing_in, Deleting.deleted, Inserting.inserted, Replies.kept, Replies.row_change, Rows.kinds_of, Rows.qualifying, Updating.new_version, Updating.updated}
 use Rattle.rls_explain.specs.declared.outcome.{RowWord.RowWord, Reason.Reason, RowOutcome.RowOutcome, Met.Met}

@@ -6,8 +6,8 @@ use Rattle.rls_value.specs.{declared.truth.Truth.Truth, Truths.is_true}
 use Rattle.rls_value.specs.declared.truth.Truth.TheVariants.{True, False, Unknown}
 use Rattle.rls_value.specs.declared.verb.Kind.TheVariants as k
 use Rattle.rls_expr.specs.Terms.{Term, maybe_term}
-use Rattle.rls_meaning.specs.rls_guard.specs.rls_catalog.specs.{declared.stored.Stored.Stored, declared.verdict.Side.TheVariants.Old, State.State, Verdict.is_same_kind}
-use Rattle.rls_meaning.specs.rls_guard.specs.rls_evaluation.specs.{Environments.over, Showing.allows}
+use Rattle.rls_meaning.specs.rls_access.specs.rls_guard.specs.rls_catalog.specs.{declared.stored.Stored.Stored, declared.verdict.Side.TheVariants.Old, State.State, Verdict.is_same_kind}
+use Rattle.rls_meaning.specs.rls_access.specs.rls_guard.specs.rls_evaluation.specs.{Environments.over, Showing.allows}
 use Rattle.rls_meaning.specs.{Commands.Command, Evaluating.is_met, Rows.kinds_of, Rows.qualifying, Rows.scanned, Rows.shown_to, Rows.verdict}
 use Rattle.rls_explain.specs.declared.explanation.Explained.{Explained}
 use Rattle.rls_explain.specs.declared.outcome.{RowOutcome.RowOutcome, Reason.Reason, Met.Met}

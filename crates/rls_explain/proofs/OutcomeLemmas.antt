@@ -6,13 +6,13 @@ use Rattle.rls_value.specs.{Names.one_of, declared.object.Object.Object, declare
 use Rattle.rls_value.specs.declared.refusal.NameKind.TheVariants as kind
 use Rattle.rls_value.specs.declared.verb.Kind.TheVariants as k
 use Rattle.rls_expr.specs.{declared.table.Column.Column, declared.table.TableDef.TableDef, Terms.Term}
-use Rattle.rls_meaning.specs.rls_guard.specs.rls_catalog.specs.{declared.stored.Stored.Stored, declared.verdict.Side.Side, Membership.Within, State.State, State.table_of}
-use Rattle.rls_meaning.specs.rls_guard.specs.rls_catalog.specs.declared.verdict.Side.TheVariants as side
-use Rattle.rls_meaning.specs.rls_guard.specs.rls_source.specs.{Named.found_or, Sequences.each_of}
+use Rattle.rls_meaning.specs.rls_access.specs.rls_guard.specs.rls_catalog.specs.{declared.stored.Stored.Stored, declared.verdict.Side.Side, Membership.Within, State.State, State.table_of}
+use Rattle.rls_meaning.specs.rls_access.specs.rls_guard.specs.rls_catalog.specs.declared.verdict.Side.TheVariants as side
+use Rattle.rls_meaning.specs.rls_access.specs.rls_guard.specs.rls_source.specs.{Named.found_or, Sequences.each_of}
 use Rattle.rls_statement.specs.{declared.changing.Delete.Delete, declared.changing.Update.Update, declared.statement.Insert.Insert, declared.statement.Select.Select, declared.statement.Statement.Statement}
 use Rattle.rls_statement.specs.declared.statement.Statement.TheVariants as statement
-use Rattle.rls_meaning.specs.rls_guard.specs.rls_evaluation.specs.{Environments.Environment, Environments.alone, Environments.over, Eval.Shows, Showing.shows, Tableless.value_given}
-use Rattle.rls_meaning.specs.rls_guard.specs.{declared.context.Ctx.Ctx, declared.reply.Decision.Decision}
+use Rattle.rls_meaning.specs.rls_access.specs.rls_guard.specs.rls_evaluation.specs.{Environments.Environment, Environments.alone, Environments.over, Eval.Shows, Showing.shows, Tableless.value_given}
+use Rattle.rls_meaning.specs.rls_access.specs.rls_guard.specs.{declared.context.Ctx.Ctx, declared.reply.Decision.Decision}
 use Rattle.rls_judging.specs.ScannedRows.{pinned_key}
 use Rattle.rls_meaning.specs.rls_depth.proofs.{Tables.within_first, Tables.within_last, Walking.and_then_ok, Walking.ok_same}
 use Rattle.rls_meaning.specs.rls_dml.specs.{declared.analysed_insert.AnalysedInsert.AnalysedInsert, declared.analysed_update.AnalysedUpdate.AnalysedUpdate, declared.deleting.AnalysedDelete.AnalysedDelete, declared.selecting.AnalysedSelect.AnalysedSelect, Inserting.nulls, Inserting.numbered, Inserting.tuples_tables, Updating.places_set as places_of_update, Writing.assigned, Writing.key_at}

@@ -5,8 +5,8 @@ use Rattle.std.specs.Option.{option_map, option_to_list}
 use Rattle.std.proofs.Common.{ap, sym, ◌∙◌}
 use Rattle.rls_value.specs.Names.{one_of}
 use Rattle.rls_expr.specs.{Resolving.resolved as resolved_over, Scopes.InScope, Terms.Term}
-use Rattle.rls_meaning.specs.rls_guard.specs.rls_catalog.specs.State.{State}
-use Rattle.rls_meaning.specs.rls_guard.specs.Naming.{names_over}
+use Rattle.rls_meaning.specs.rls_access.specs.rls_guard.specs.rls_catalog.specs.State.{State}
+use Rattle.rls_meaning.specs.rls_access.specs.rls_guard.specs.Naming.{names_over}
 use Rattle.rls_statement.specs.declared.changing.Assignment.{Assignment}
 use Rattle.rls_meaning.specs.rls_depth.proofs.{Using.behind, Using.in_front}
 use Rattle.rls_meaning.specs.rls_dml.specs.{Checking.names_over_none, Inserting.tuple_resolved, Inserting.tuples_tables}

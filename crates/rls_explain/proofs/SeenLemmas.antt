@@ -6,10 +6,10 @@ use Rattle.rls_value.specs.{declared.object.Object.Object, declared.refusal.Refu
 use Rattle.rls_value.specs.declared.truth.Truth.TheVariants.{True}
 use Rattle.rls_value.specs.declared.verb.Kind.TheVariants as k
 use Rattle.rls_expr.specs.{declared.columns.SelectedTable.SelectedTable, declared.table.TableDef.TableDef}
-use Rattle.rls_meaning.specs.rls_guard.specs.rls_catalog.specs.{declared.stored.Stored.Stored, State.State, State.rows_of, State.table_of}
-use Rattle.rls_meaning.specs.rls_guard.specs.rls_catalog.specs.declared.verdict.Side.TheVariants as side
-use Rattle.rls_meaning.specs.rls_guard.specs.rls_source.specs.Sequences.{each_or_refused}
-use Rattle.rls_meaning.specs.rls_guard.specs.rls_evaluation.specs.Showing.{allows, shows}
+use Rattle.rls_meaning.specs.rls_access.specs.rls_guard.specs.rls_catalog.specs.{declared.stored.Stored.Stored, State.State, State.rows_of, State.table_of}
+use Rattle.rls_meaning.specs.rls_access.specs.rls_guard.specs.rls_catalog.specs.declared.verdict.Side.TheVariants as side
+use Rattle.rls_meaning.specs.rls_access.specs.rls_guard.specs.rls_source.specs.Sequences.{each_or_refused}
+use Rattle.rls_meaning.specs.rls_access.specs.rls_guard.specs.rls_evaluation.specs.Showing.{allows, shows}
 use Rattle.rls_recursion.specs.{declared.listings.Listing.Listing, Listings.leads_of, Listings.list_from, Listings.listed, Listings.no_listing, Listings.put_gone_through, Listings.put_selected}
 use Rattle.rls_meaning.specs.rls_depth.proofs.Tables.{within_nothing}
 use Rattle.rls_meaning.specs.rls_expansion.specs.{declared.expansion.PolicyExpansion.PolicyExpansion, Expanding.judges_old, Expanding.permission_checks}

@@ -4,13 +4,13 @@ use Rattle.std.specs.List.{All}
 use Rattle.std.proofs.{Common.inl, Common.inr, lemmas.List.Elements.All-append, lemmas.List.Elements.All-cons, lemmas.List.Elements.All-map, lemmas.List.Elements.All-nil}
 use Rattle.rls_value.specs.{declared.refusal.Refusal.Refusal, declared.row.RowId.RowId, declared.truth.Truth.Truth, declared.verb.Kind.Kind, Giving.and_then}
 use Rattle.rls_expr.specs.{declared.policy.Policy.Policy, Terms.Term}
-use Rattle.rls_meaning.specs.rls_guard.specs.rls_catalog.specs.{declared.stored.Stored.Stored, declared.verdict.Side.Side, State.State, Verdict.is_exempt, Verdict.verdict_of}
-use Rattle.rls_meaning.specs.rls_guard.specs.rls_catalog.specs.declared.verdict.Side.TheVariants as side
-use Rattle.rls_meaning.specs.rls_guard.specs.rls_catalog.specs.declared.verdict.Verdict.TheVariants as v
-use Rattle.rls_meaning.specs.rls_guard.specs.rls_source.specs.Sequences.{each_of}
+use Rattle.rls_meaning.specs.rls_access.specs.rls_guard.specs.rls_catalog.specs.{declared.stored.Stored.Stored, declared.verdict.Side.Side, State.State, Verdict.is_exempt, Verdict.verdict_of}
+use Rattle.rls_meaning.specs.rls_access.specs.rls_guard.specs.rls_catalog.specs.declared.verdict.Side.TheVariants as side
+use Rattle.rls_meaning.specs.rls_access.specs.rls_guard.specs.rls_catalog.specs.declared.verdict.Verdict.TheVariants as v
+use Rattle.rls_meaning.specs.rls_access.specs.rls_guard.specs.rls_source.specs.Sequences.{each_of}
 use Rattle.rls_statement.specs.{declared.statement.Statement.Statement, Tags.tag_of}
 use Rattle.rls_statement.specs.declared.statement.Statement.TheVariants as statement
-use Rattle.rls_meaning.specs.rls_guard.specs.declared.context.Ctx.{Ctx}
+use Rattle.rls_meaning.specs.rls_access.specs.rls_guard.specs.declared.context.Ctx.{Ctx}
 use Rattle.rls_meaning.specs.rls_access.specs.Statements.{mode_or_refused}
 use Rattle.rls_meaning.specs.rls_dml.specs.{declared.analysed_insert.AnalysedInsert.AnalysedInsert, declared.analysed_update.AnalysedUpdate.AnalysedUpdate, Inserting.numbered}
 use Rattle.rls_meaning.specs.{Commands.Command, Commands.permitted_in, Deleting.delete_command, Deleting.delete_parts, Inserting.insert_command, Inserting.insert_parts, Inserting.row_of_tuple, Naming.table_in, Rows.kinds_of, Rows.qualifying, Rows.scanned, Rows.shown_to, Selecting.select_command, Selecting.select_parts, Showing.truths_in, Updating.new_version, Updating.update_command, Updating.update_parts}

@@ -4,14 +4,14 @@ use Rattle.std.specs.Prelude.{◌≡◌, ◌⊎◌, List, [], ◌++◌, Option, 
 use Rattle.std.specs.List.{flat_map}
 use Rattle.rls_value.specs.{declared.refusal.Refusal.Refusal, declared.row.RowId.RowId, declared.truth.Truth.Truth, declared.value.Value.Value, declared.verb.Kind.Kind, Giving.and_then}
 use Rattle.rls_expr.specs.{declared.policy.Policy.Policy, Terms.Term}
-use Rattle.rls_meaning.specs.rls_guard.specs.rls_catalog.specs.{declared.stored.Stored.Stored, declared.verdict.Side.Side, State.State, State.is_same_id, Verdict.is_exempt, Verdict.verdict_of}
-use Rattle.rls_meaning.specs.rls_guard.specs.rls_catalog.specs.declared.verdict.Side.TheVariants as side
-use Rattle.rls_meaning.specs.rls_guard.specs.rls_catalog.specs.declared.verdict.Verdict.TheVariants as v
-use Rattle.rls_meaning.specs.rls_guard.specs.rls_source.specs.Sequences.{each_of}
+use Rattle.rls_meaning.specs.rls_access.specs.rls_guard.specs.rls_catalog.specs.{declared.stored.Stored.Stored, declared.verdict.Side.Side, State.State, State.is_same_id, Verdict.is_exempt, Verdict.verdict_of}
+use Rattle.rls_meaning.specs.rls_access.specs.rls_guard.specs.rls_catalog.specs.declared.verdict.Side.TheVariants as side
+use Rattle.rls_meaning.specs.rls_access.specs.rls_guard.specs.rls_catalog.specs.declared.verdict.Verdict.TheVariants as v
+use Rattle.rls_meaning.specs.rls_access.specs.rls_guard.specs.rls_source.specs.Sequences.{each_of}
 use Rattle.rls_statement.specs.{declared.statement.Statement.Statement, Tags.tag_of}
 use Rattle.rls_statement.specs.declared.statement.Statement.TheVariants as statement
-use Rattle.rls_meaning.specs.rls_guard.specs.{declared.context.Ctx.Ctx, declared.effect.Effect.Effect, declared.reply.Decision.Decision}
-use Rattle.rls_meaning.specs.rls_guard.specs.declared.effect.Effect.TheVariants as effect
+use Rattle.rls_meaning.specs.rls_access.specs.rls_guard.specs.{declared.context.Ctx.Ctx, declared.effect.Effect.Effect, declared.reply.Decision.Decision}
+use Rattle.rls_meaning.specs.rls_access.specs.rls_guard.specs.declared.effect.Effect.TheVariants as effect
 use Rattle.rls_meaning.specs.rls_access.specs.Statements.{mode_or_refused}
 use Rattle.rls_meaning.specs.rls_dml.specs.{declared.analysed_insert.AnalysedInsert.AnalysedInsert, declared.analysed_update.AnalysedUpdate.AnalysedUpdate, Inserting.numbered}
 use Rattle.rls_meaning.specs.{Commands.Command, Commands.permitted_in, Deleting.delete_command, Deleting.delete_parts, Inserting.insert_command, Inserting.insert_parts, Inserting.row_of_tuple, Naming.table_in, Rows.kinds_of, Rows.qualifying, Rows.scanned, Rows.shown_to, Rows.verdict, Selecting.select_command, Selecting.select_parts, Showing.truths_in, Updating.new_version, Updating.update_command, Updating.update_parts}

@@ -6,12 +6,12 @@ use Rattle.std.specs.Option.{option_map}
 use Rattle.rls_value.specs.{declared.refusal.Refusal.Refusal, declared.row.RowId.RowId, declared.truth.Truth.Truth, declared.value.Value.Value, declared.verb.Kind.Kind, Values.truth_in}
 use Rattle.rls_value.specs.declared.verb.Kind.TheVariants as k
 use Rattle.rls_expr.specs.{declared.policy.Policy.Policy, declared.table.Column.Column, declared.table.TableDef.TableDef, Scopes.InScope, Tables.column_named, Terms.Term}
-use Rattle.rls_meaning.specs.rls_guard.specs.rls_catalog.specs.{declared.stored.Stored.Stored, declared.verdict.Side.Side, State.State, State.is_same_id, State.table_of, Verdict.is_same_kind, Verdict.verdict_of}
-use Rattle.rls_meaning.specs.rls_guard.specs.rls_catalog.specs.declared.verdict.Verdict.TheVariants as v
+use Rattle.rls_meaning.specs.rls_access.specs.rls_guard.specs.rls_catalog.specs.{declared.stored.Stored.Stored, declared.verdict.Side.Side, State.State, State.is_same_id, State.table_of, Verdict.is_same_kind, Verdict.verdict_of}
+use Rattle.rls_meaning.specs.rls_access.specs.rls_guard.specs.rls_catalog.specs.declared.verdict.Verdict.TheVariants as v
 use Rattle.rls_statement.specs.{declared.changing.Assignment.Assignment, declared.changing.Delete.Delete, declared.changing.Update.Update, declared.statement.Insert.Insert, declared.statement.Select.Select, declared.statement.Statement.Statement}
 use Rattle.rls_statement.specs.declared.statement.Statement.TheVariants as statement
-use Rattle.rls_meaning.specs.rls_guard.specs.rls_evaluation.specs.{declared.relation.SecurityQuals.SecurityQuals, declared.relation.SecurityQuals.TheVariants.Exempt, declared.relation.SecurityQuals.TheVariants.Policies, Environments.Environment, Environments.alone, Environments.over, Eval.Shows, Eval.value_of, Showing.shows, Tableless.value_given}
-use Rattle.rls_meaning.specs.rls_guard.specs.{declared.context.Ctx.Ctx, declared.quals.RowCheck.RowCheck, declared.reply.Decision.Decision, RolePrivileges.role_privileges_in}
+use Rattle.rls_meaning.specs.rls_access.specs.rls_guard.specs.rls_evaluation.specs.{declared.relation.SecurityQuals.SecurityQuals, declared.relation.SecurityQuals.TheVariants.Exempt, declared.relation.SecurityQuals.TheVariants.Policies, Environments.Environment, Environments.alone, Environments.over, Eval.Shows, Eval.value_of, Showing.shows, Tableless.value_given}
+use Rattle.rls_meaning.specs.rls_access.specs.rls_guard.specs.{declared.context.Ctx.Ctx, declared.quals.RowCheck.RowCheck, declared.reply.Decision.Decision, RolePrivileges.role_privileges_in}
 use Rattle.rls_judging.specs.{Judging.judged_all, ScannedRows.pinned_key}
 use Rattle.rls_meaning.specs.rls_dml.specs.{Inserting.nulls, Inserting.places_from, Inserting.tuples_tables, Writing.assigned}
 use Rattle.rls_meaning.specs.rls_expansion.specs.{declared.expansion.PolicyExpansion.PolicyExpansion, Expanding.expansion_of, Used.all_tables, Used.tables_if}

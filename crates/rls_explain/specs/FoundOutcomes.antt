@@ -7,11 +7,11 @@ use Rattle.rls_value.specs.{declared.object.Object.Object, declared.refusal.Refu
 use Rattle.rls_value.specs.declared.truth.Truth.TheVariants.{True}
 use Rattle.rls_value.specs.declared.verb.Kind.TheVariants as k
 use Rattle.rls_expr.specs.{declared.columns.SelectedTable.SelectedTable, declared.table.Column.Column, declared.table.TableDef.TableDef, Terms.Term}
-use Rattle.rls_meaning.specs.rls_guard.specs.rls_catalog.specs.{declared.stored.Stored.Stored, State.State, State.rows_of, State.table_of}
+use Rattle.rls_meaning.specs.rls_access.specs.rls_guard.specs.rls_catalog.specs.{declared.stored.Stored.Stored, State.State, State.rows_of, State.table_of}
 use Rattle.rls_statement.specs.{declared.changing.Delete.Delete, declared.changing.Update.Update, declared.statement.Insert.Insert, declared.statement.Select.Select, declared.statement.Statement.Statement}
 use Rattle.rls_statement.specs.declared.statement.Statement.TheVariants as statement
-use Rattle.rls_meaning.specs.rls_guard.specs.rls_evaluation.specs.{Environments.alone, Environments.over, Eval.Shows, Showing.shows}
-use Rattle.rls_meaning.specs.rls_guard.specs.{declared.context.Ctx.Ctx, declared.quals.RowCheck.RowCheck}
+use Rattle.rls_meaning.specs.rls_access.specs.rls_guard.specs.rls_evaluation.specs.{Environments.alone, Environments.over, Eval.Shows, Showing.shows}
+use Rattle.rls_meaning.specs.rls_access.specs.rls_guard.specs.{declared.context.Ctx.Ctx, declared.quals.RowCheck.RowCheck}
 use Rattle.rls_judging.specs.ScannedRows.{pinned_key}
 use Rattle.rls_meaning.specs.rls_dml.specs.{Inserting.nulls, Inserting.tuples_tables}
 use Rattle.rls_meaning.specs.rls_expansion.specs.{declared.expansion.PolicyExpansion.PolicyExpansion, Expanding.permission_checks, Used.all_tables, Used.tables_if}

@@ -3,9 +3,9 @@ use Rattle.std.specs.Prelude.{◌≡◌, ℕ, List, ◌∷◌, [], Bool, true, f
 use Rattle.std.specs.List.{flat_map}
 use Rattle.rls_value.specs.{declared.object.Object.Object, declared.row.RowId.RowId, declared.value.Value.Value}
 use Rattle.rls_expr.specs.Terms.{Term}
-use Rattle.rls_meaning.specs.rls_guard.specs.rls_catalog.specs.{declared.change.Change.Change, declared.stored.Stored.Stored, State.State}
-use Rattle.rls_meaning.specs.rls_guard.specs.rls_catalog.specs.declared.change.Change.TheVariants as change
-use Rattle.rls_meaning.specs.rls_guard.specs.rls_source.specs.Sequences.{each_of}
+use Rattle.rls_meaning.specs.rls_access.specs.rls_guard.specs.rls_catalog.specs.{declared.change.Change.Change, declared.stored.Stored.Stored, State.State}
+use Rattle.rls_meaning.specs.rls_access.specs.rls_guard.specs.rls_catalog.specs.declared.change.Change.TheVariants as change
+use Rattle.rls_meaning.specs.rls_access.specs.rls_guard.specs.rls_source.specs.Sequences.{each_of}
 use Rattle.rls_meaning.specs.rls_dml.specs.declared.analysed_update.AnalysedUpdate.{AnalysedUpdate}
 use Rattle.rls_meaning.specs.{Commands.Command, Deleting.deleted, Inserting.inserted, Rows.qualifying, Updating.new_version, Updating.updated}
 use Rattle.rls_explain.specs.declared.outcome.{RowWord.RowWord, RowOutcome.RowOutcome, Met.Met}

@@ -6,14 +6,14 @@ use Rattle.rls_value.specs.{declared.object.Object.Object, declared.refusal.Refu
 use Rattle.rls_value.specs.declared.truth.Truth.TheVariants.{True}
 use Rattle.rls_value.specs.declared.verb.Kind.TheVariants as k
 use Rattle.rls_expr.specs.Terms.{Term}
-use Rattle.rls_meaning.specs.rls_guard.specs.rls_catalog.specs.{declared.stored.Stored.Stored, declared.verdict.Side.Side, State.State, Verdict.is_same_kind}
-use Rattle.rls_meaning.specs.rls_guard.specs.rls_catalog.specs.declared.verdict.Side.TheVariants as side
-use Rattle.rls_meaning.specs.rls_guard.specs.rls_source.specs.Sequences.{each_of}
+use Rattle.rls_meaning.specs.rls_access.specs.rls_guard.specs.rls_catalog.specs.{declared.stored.Stored.Stored, declared.verdict.Side.Side, State.State, Verdict.is_same_kind}
+use Rattle.rls_meaning.specs.rls_access.specs.rls_guard.specs.rls_catalog.specs.declared.verdict.Side.TheVariants as side
+use Rattle.rls_meaning.specs.rls_access.specs.rls_guard.specs.rls_source.specs.Sequences.{each_of}
 use Rattle.rls_statement.specs.{declared.statement.Insert.Insert, declared.statement.Selected.Selected, declared.statement.Selected.TheVariants.Count, declared.statement.Statement.Statement}
 use Rattle.rls_statement.specs.declared.statement.Statement.TheVariants as statement
-use Rattle.rls_meaning.specs.rls_guard.specs.rls_evaluation.specs.{Environments.over, Showing.allows}
-use Rattle.rls_meaning.specs.rls_guard.specs.{declared.context.Ctx.Ctx, declared.effect.Effect.Effect, declared.reply.Decision.Decision}
-use Rattle.rls_meaning.specs.rls_guard.specs.declared.effect.Effect.TheVariants as effect
+use Rattle.rls_meaning.specs.rls_access.specs.rls_guard.specs.rls_evaluation.specs.{Environments.over, Showing.allows}
+use Rattle.rls_meaning.specs.rls_access.specs.rls_guard.specs.{declared.context.Ctx.Ctx, declared.effect.Effect.Effect, declared.reply.Decision.Decision}
+use Rattle.rls_meaning.specs.rls_access.specs.rls_guard.specs.declared.effect.Effect.TheVariants as effect
 use Rattle.rls_meaning.specs.rls_dml.specs.{declared.analysed_insert.AnalysedInsert.AnalysedInsert, declared.analysed_update.AnalysedUpdate.AnalysedUpdate, Inserting.numbered}
 use Rattle.rls_meaning.specs.{Commands.Command, Commands.permitted_in, Deleting.delete_command, Deleting.delete_parts, Evaluating.value, Inserting.insert_command, Inserting.insert_parts, Inserting.row_of_tuple, Meaning.effect_of, Naming.table_in, Rows.kinds_of, Rows.qualifying, Rows.scanned, Rows.shown_to, Selecting.select_command, Selecting.select_parts, Updating.new_version, Updating.update_command, Updating.update_parts}
 use Rattle.rls_explain.specs.declared.explanation.Explained.{Explained}

@@ -8,10 +8,10 @@ use Rattle.rls_value.specs.declared.object.Object.TheVariants as o
 use Rattle.rls_value.specs.declared.verb.Kind.TheVariants as k
 use Rattle.rls_value.specs.Names.{one_of}
 use Rattle.rls_expr.specs.{declared.table.TableDef.TableDef, Scopes.InScope}
-use Rattle.rls_meaning.specs.rls_guard.specs.rls_catalog.specs.{declared.stored.Stored.Stored, State.State, State.name_order, State.rows_of, State.table_of}
-use Rattle.rls_meaning.specs.rls_guard.specs.rls_catalog.specs.declared.verdict.Side.TheVariants as side
-use Rattle.rls_meaning.specs.rls_guard.specs.rls_source.specs.Footprints.{is_among}
-use Rattle.rls_meaning.specs.rls_guard.specs.rls_evaluation.specs.Showing.{allows}
+use Rattle.rls_meaning.specs.rls_access.specs.rls_guard.specs.rls_catalog.specs.{declared.stored.Stored.Stored, State.State, State.name_order, State.rows_of, State.table_of}
+use Rattle.rls_meaning.specs.rls_access.specs.rls_guard.specs.rls_catalog.specs.declared.verdict.Side.TheVariants as side
+use Rattle.rls_meaning.specs.rls_access.specs.rls_guard.specs.rls_source.specs.Footprints.{is_among}
+use Rattle.rls_meaning.specs.rls_access.specs.rls_guard.specs.rls_evaluation.specs.Showing.{allows}
 use Rattle.rls_meaning.specs.{Commands.Command, Commands.closing_in, Commands.needed_in, Rows.verdict}
 use Rattle.rls_explain.specs.declared.outcome.RowOutcome.{RowOutcome}
 use Rattle.rls_explain.specs.declared.outcome.RowWord.TheVariants as w

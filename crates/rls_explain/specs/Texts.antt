@@ -3,10 +3,10 @@ use Rattle.std.specs.Prelude.{ℕ, List, ◌++◌, Bool, true, false, codes}
 use Rattle.rls_value.specs.{declared.truth.Truth.Truth, declared.verb.PolicyKind.PolicyKind, Objects.row_id_text, Words.kind_word}
 use Rattle.rls_value.specs.declared.truth.Truth.TheVariants as truth
 use Rattle.rls_value.specs.declared.verb.PolicyKind.TheVariants as pk
-use Rattle.rls_meaning.specs.rls_guard.specs.rls_catalog.specs.{declared.verdict.Side.Side, declared.verdict.Verdict.Verdict}
-use Rattle.rls_meaning.specs.rls_guard.specs.rls_catalog.specs.declared.verdict.Side.TheVariants as side
-use Rattle.rls_meaning.specs.rls_guard.specs.rls_catalog.specs.declared.verdict.Verdict.TheVariants as v
-use Rattle.rls_meaning.specs.rls_guard.specs.declared.reply.Decision.{Decision}
+use Rattle.rls_meaning.specs.rls_access.specs.rls_guard.specs.rls_catalog.specs.{declared.verdict.Side.Side, declared.verdict.Verdict.Verdict}
+use Rattle.rls_meaning.specs.rls_access.specs.rls_guard.specs.rls_catalog.specs.declared.verdict.Side.TheVariants as side
+use Rattle.rls_meaning.specs.rls_access.specs.rls_guard.specs.rls_catalog.specs.declared.verdict.Verdict.TheVariants as v
+use Rattle.rls_meaning.specs.rls_access.specs.rls_guard.specs.declared.reply.Decision.{Decision}
 use Rattle.rls_explain.specs.declared.explanation.Said.{Said}
 
 -- a truth value

@@ -1,7 +1,7 @@
 //! Explains a statement.
 
 ghost use Rattle.std.specs.Prelude.{◌≡◌, Some, true, IfOk};
-ghost use Rattle.rls_meaning.specs.rls_guard.specs.rls_catalog.specs.Verdict.{is_same_kind};
+ghost use Rattle.rls_meaning.specs.rls_access.specs.rls_guard.specs.rls_catalog.specs.Verdict.{is_same_kind};
 ghost use Rattle.rls_meaning.specs.Meaning.{effect_of};
 ghost use Rattle.rls_explain.specs.Explaining as spec;
 ghost use Rattle.rls_explain.specs.Found as found;
@@ -12,6 +12,7 @@ use crate::judging::is_same_id;
 use crate::scanning::{explain_delete, explain_select};
 use crate::updating::explain_update;
 use rls_meaning::rls_access::{Ctx, Decision, Effect, Outcome, run_statement};
+use rls_meaning::rls_guard::rls_catalog::Catalog;
 use rls_meaning::rls_guard::rls_source::{RowSource, StatementSource};
 use rls_meaning::statement_means;
 use rls_statement::Statement;
@@ -20,7 +21,7 @@ use std::alloc::{AllocError, Global};
 
 /// What the statement comes to and, of the row that is asked for, each decision with what policies say. The source is only
 /// read.
-pub fn explain_row<'c, S: StatementSource<'c> + Drop>(
+pub fn explain_row<'c, S: StatementSource<'c>>(
     alloc: Global,
     source: &mut S,
     ctx: &Ctx,
@@ -33,7 +34,7 @@ pub fn explain_row<'c, S: StatementSource<'c> + Drop>(
     ensures state { S.state source.new ≡ S.state source.old }
 {
     let effect = effect_in(alloc, source, ctx, statement)?;
-    match role_and_row(alloc, source, ctx, statement, row, &effect) {
+    match role_and_row(alloc, source.catalog(), ctx, statement, row, &effect) {
         Ok((role, row)) => Ok(Explanation { role, effect, row }),
         Err(refused) => {
             drop(effect);
@@ -43,7 +44,7 @@ pub fn explain_row<'c, S: StatementSource<'c> + Drop>(
 }
 
 /// What the statement comes to.
-fn effect_in<'c, S: StatementSource<'c> + Drop>(
+fn effect_in<'c, S: StatementSource<'c>>(
     alloc: Global,
     source: &mut S,
     ctx: &Ctx,
@@ -64,20 +65,19 @@ fn effect_in<'c, S: StatementSource<'c> + Drop>(
 }
 
 /// The role, and the decisions on the row.
-fn role_and_row<'c, S: RowSource<'c>>(
+fn role_and_row(
     alloc: Global,
-    source: &mut S,
+    catalog: &Catalog,
     ctx: &Ctx,
     statement: &Statement,
     row: Option<RowId>,
     effect: &Effect,
 ) -> Result<(Name, Items<Explained>), AllocError>
-    requires { effect.now ≡ effect_of (S.state source.old) ctx.now statement.now }
+    requires { effect.now ≡ effect_of catalog.now ctx.now statement.now }
     ensures role { IfOk result (λ both. both.0 ≡ ctx.now.role) }
-    ensures row { IfOk result (λ both. both.1 ≡ spec.explained_in (S.state source.old) ctx.now statement.now row) }
-    ensures state { S.state source.new ≡ S.state source.old }
+    ensures row { IfOk result (λ both. both.1 ≡ spec.explained_in catalog.now ctx.now statement.now row) }
 {
-    let explained = explained_in(alloc, source, ctx, statement, row, effect)?;
+    let explained = explained_in(alloc, catalog, ctx, statement, row, effect)?;
     match ctx.role.copy() {
         Ok(role) => Ok((role, explained)),
         Err(refused) => {
@@ -87,20 +87,19 @@ fn role_and_row<'c, S: RowSource<'c>>(
     }
 }
 
-fn explained_in<'c, S: RowSource<'c>>(
+fn explained_in(
     alloc: Global,
-    source: &mut S,
+    catalog: &Catalog,
     ctx: &Ctx,
     statement: &Statement,
     row: Option<RowId>,
     effect: &Effect,
 ) -> Result<Items<Explained>, AllocError>
-    requires { effect.now ≡ effect_of (S.state source.old) ctx.now statement.now }
-    ensures row { IfOk result (λ explained. explained ≡ spec.explained_in (S.state source.old) ctx.now statement.now row) }
-    ensures state { S.state source.new ≡ S.state source.old }
+    requires { effect.now ≡ effect_of catalog.now ctx.now statement.now }
+    ensures { IfOk result (λ explained. explained ≡ spec.explained_in catalog.now ctx.now statement.now row) }
 {
     match row {
-        Some(id) => explain_own(alloc, source, ctx, statement, decisions_of(effect), id),
+        Some(id) => explain_own(alloc, catalog, ctx, statement, decisions_of(effect), id),
         None => Ok(Items::new(alloc)),
     }
 }
@@ -116,20 +115,19 @@ pub fn decisions_of(effect: &Effect) -> &[Decision]
 
 /// Explains the decisions on the row of that number, which are among these.
 #[tactic(auto, using(crate::proofs::DecidedLemmas::undecided))]
-fn explain_own<'c, S: RowSource<'c>>(
+fn explain_own(
     alloc: Global,
-    source: &mut S,
+    catalog: &Catalog,
     ctx: &Ctx,
     statement: &Statement,
     decisions: &[Decision],
     id: RowId,
 ) -> Result<Items<Explained>, AllocError>
-    requires { decisions.now ≡ spec.decisions_of (effect_of (S.state source.old) ctx.now statement.now) }
-    ensures row { IfOk result (λ explained. explained ≡ spec.explained_in (S.state source.old) ctx.now statement.now (Some id)) }
-    ensures state { S.state source.new ≡ S.state source.old }
+    requires { decisions.now ≡ spec.decisions_of (effect_of catalog.now ctx.now statement.now) }
+    ensures { IfOk result (λ explained. explained ≡ spec.explained_in catalog.now ctx.now statement.now (Some id)) }
 {
     if is_decided(decisions, id) {
-        explain_decided(alloc, source, ctx, statement, are_read(decisions), id)
+        explain_decided(alloc, catalog, ctx, statement, are_read(decisions), id)
     } else {
         Ok(Items::new(alloc))
     }
@@ -160,24 +158,23 @@ fn is_select(kind: Kind) -> bool
 
 /// Explains a statement that decides on the row.
 #[tactic(auto, using(crate::proofs::DecidedLemmas::decides_on_none))]
-fn explain_decided<'c, S: RowSource<'c>>(
+fn explain_decided(
     alloc: Global,
-    source: &mut S,
+    catalog: &Catalog,
     ctx: &Ctx,
     statement: &Statement,
     reads: bool,
     id: RowId,
 ) -> Result<Items<Explained>, AllocError>
-    requires decided { found.is_decided id (spec.decisions_of (effect_of (S.state source.old) ctx.now statement.now)) ≡ true }
-    requires reads { found.are_read (spec.decisions_of (effect_of (S.state source.old) ctx.now statement.now)) ≡ reads }
-    ensures row { IfOk result (λ explained. explained ≡ spec.explained_in (S.state source.old) ctx.now statement.now (Some id)) }
-    ensures state { S.state source.new ≡ S.state source.old }
+    requires decided { found.is_decided id (spec.decisions_of (effect_of catalog.now ctx.now statement.now)) ≡ true }
+    requires reads { found.are_read (spec.decisions_of (effect_of catalog.now ctx.now statement.now)) ≡ reads }
+    ensures { IfOk result (λ explained. explained ≡ spec.explained_in catalog.now ctx.now statement.now (Some id)) }
 {
     match statement {
-        Statement::Select(select) => explain_select(alloc, source, ctx, select, id),
-        Statement::Insert(insert) => explain_insert(alloc, source, ctx, insert, reads, id),
-        Statement::Update(update) => explain_update(alloc, source, ctx, update, reads, id),
-        Statement::Delete(delete) => explain_delete(alloc, source, ctx, delete, reads, id),
+        Statement::Select(select) => explain_select(alloc, catalog, ctx, select, id),
+        Statement::Insert(insert) => explain_insert(alloc, catalog, ctx, insert, reads, id),
+        Statement::Update(update) => explain_update(alloc, catalog, ctx, update, reads, id),
+        Statement::Delete(delete) => explain_delete(alloc, catalog, ctx, delete, reads, id),
         Statement::CreateRole(_)
         | Statement::AlterRole(_)
         | Statement::CreateTable(_)

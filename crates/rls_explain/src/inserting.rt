@@ -2,10 +2,10 @@
 
 ghost use Rattle.std.specs.Prelude.{◌≡◌, ◌++◌, ◌+◌, ◌≤◌, Some, true, length, IfOk, OnOk};
 ghost use Rattle.rls_value.specs.Giving.{Gives};
-ghost use Rattle.rls_meaning.specs.rls_guard.specs.rls_catalog.specs.State.{table_of};
+ghost use Rattle.rls_meaning.specs.rls_access.specs.rls_guard.specs.rls_catalog.specs.State.{table_of};
 ghost use Rattle.rls_expr.specs.Scopes.{in_scope};
 ghost use Rattle.rls_statement.specs.declared.statement.Statement.TheVariants as asked;
-ghost use Rattle.rls_meaning.specs.rls_guard.specs.rls_evaluation.specs.{Environments.alone, Showing.shows};
+ghost use Rattle.rls_meaning.specs.rls_access.specs.rls_guard.specs.rls_evaluation.specs.{Environments.alone, Showing.shows};
 ghost use Rattle.rls_meaning.specs.Meaning.{effect_of};
 ghost use Rattle.rls_meaning.specs.rls_dml.specs.Inserting.{nulls as spec_nulls, tuples_tables};
 ghost use Rattle.rls_explain.specs.Explaining.{decisions_of, explained_in};
@@ -21,64 +21,62 @@ use rls_expr::{Column, Expr, FromTable, TableDef};
 use rls_judging::CheckContext;
 use rls_meaning::rls_access::Ctx;
 use rls_meaning::rls_expansion::PolicyExpansion;
+use rls_meaning::rls_guard::rls_catalog::Catalog;
 use rls_meaning::rls_guard::rls_evaluation::{Env, Scoped};
-use rls_meaning::rls_guard::rls_source::RowSource;
 use rls_statement::Insert;
 use rls_value::{Items, Kind, Refusal, Row, RowId, Value};
 use std::alloc::{AllocError, Global};
 
 /// Explains the decisions of an INSERT on the row of that number.
 #[tactic(auto, using(crate::proofs::DecidedLemmas::insert_without_table))]
-pub fn explain_insert<'c, S: RowSource<'c>>(
+pub fn explain_insert(
     alloc: Global,
-    source: &mut S,
+    catalog: &Catalog,
     ctx: &Ctx,
     insert: &Insert,
     reads: bool,
     id: RowId,
 ) -> Result<Items<Explained>, AllocError>
-    requires decided { spec.is_decided id (decisions_of (effect_of (S.state source.old) ctx.now (asked.Insert insert.now))) ≡ true }
-    requires reads { spec.are_read (decisions_of (effect_of (S.state source.old) ctx.now (asked.Insert insert.now))) ≡ reads }
-    ensures row { IfOk result (λ explained. explained ≡ explained_in (S.state source.old) ctx.now (asked.Insert insert.now) (Some id)) }
-    ensures state { S.state source.new ≡ S.state source.old }
+    requires decided { spec.is_decided id (decisions_of (effect_of catalog.now ctx.now (asked.Insert insert.now))) ≡ true }
+    requires reads { spec.are_read (decisions_of (effect_of catalog.now ctx.now (asked.Insert insert.now))) ≡ reads }
+    ensures { IfOk result (λ explained. explained ≡ explained_in catalog.now ctx.now (asked.Insert insert.now) (Some id)) }
 {
-    match source.table(alloc, &insert.table)? {
-        Some(table) => explain_inserted(alloc, source, ctx, insert, table, reads, id),
+    match catalog.table(&insert.table) {
+        Some(table) => explain_inserted(alloc, catalog, ctx, insert, table, reads, id),
         None => Ok(Items::new(alloc)),
     }
 }
 
 /// The same of a table that is there.
-fn explain_inserted<'c, S: RowSource<'c>>(
+fn explain_inserted(
     alloc: Global,
-    source: &mut S,
+    catalog: &Catalog,
     ctx: &Ctx,
     insert: &Insert,
     table: &TableDef,
     reads: bool,
     id: RowId,
 ) -> Result<Items<Explained>, AllocError>
-    requires there { table_of (S.state source.old) insert.now.table ≡ Some table.now }
-    requires decided { spec.is_decided id (decisions_of (effect_of (S.state source.old) ctx.now (asked.Insert insert.now))) ≡ true }
-    requires reads { spec.are_read (decisions_of (effect_of (S.state source.old) ctx.now (asked.Insert insert.now))) ≡ reads }
-    ensures row { IfOk result (λ explained. explained ≡ explained_in (S.state source.old) ctx.now (asked.Insert insert.now) (Some id)) }
-    ensures state { S.state source.new ≡ S.state source.old }
+    requires there { table_of catalog.now insert.now.table ≡ Some table.now }
+    requires decided { spec.is_decided id (decisions_of (effect_of catalog.now ctx.now (asked.Insert insert.now))) ≡ true }
+    requires reads { spec.are_read (decisions_of (effect_of catalog.now ctx.now (asked.Insert insert.now))) ≡ reads }
+    ensures { IfOk result (λ explained. explained ≡ explained_in catalog.now ctx.now (asked.Insert insert.now) (Some id)) }
 {
     decisions_found();
     let from = FromTable {
         name: &insert.table,
         table,
     };
-    let parts = insert_parts(alloc, source, table, insert)?;
-    let explained = explain_parts(alloc, source, ctx, from, &parts, reads, id);
+    let parts = insert_parts(alloc, catalog, table, insert)?;
+    let explained = explain_parts(alloc, catalog, ctx, from, &parts, reads, id);
     drop(parts);
     explained
 }
 
 /// Explains the decisions by the parts of the statement.
-fn explain_parts<'c, 'x, S: RowSource<'c>>(
+fn explain_parts<'x>(
     alloc: Global,
-    source: &mut S,
+    catalog: &Catalog,
     ctx: &Ctx,
     from: FromTable<'x>,
     parts: &InsertParts,
@@ -86,14 +84,13 @@ fn explain_parts<'c, 'x, S: RowSource<'c>>(
     id: RowId,
 ) -> Result<Items<Explained>, AllocError>
     requires { ctx.now.next + length parts.now.tuples ≤ 4294967295 }
-    ensures row { IfOk result (λ explained. explained ≡ spec.insert_found (S.state source.old) ctx.now.role id ctx.now.txn ctx.now.next from.entry.table.now.columns parts.now.places.items parts.now.tuples (spec.expansion_found (S.state source.old) ctx.now.role (in_scope from.entry) Kind.Insert reads (tuples_tables parts.now.tuples))) }
-    ensures state { S.state source.new ≡ S.state source.old }
+    ensures { IfOk result (λ explained. explained ≡ spec.insert_found catalog.now ctx.now.role id ctx.now.txn ctx.now.next from.entry.table.now.columns parts.now.places.items parts.now.tuples (spec.expansion_found catalog.now ctx.now.role (in_scope from.entry) Kind.Insert reads (tuples_tables parts.now.tuples))) }
 {
     let queries = parts.tables(alloc)?;
     let kind = Kind::Insert;
     let found = expansion_if(
         alloc,
-        source,
+        catalog,
         &ctx.role,
         from,
         kind,
@@ -102,15 +99,15 @@ fn explain_parts<'c, 'x, S: RowSource<'c>>(
     );
     drop(queries);
     let found = found?;
-    let explained = explain_if(alloc, &*source, ctx, from.table, parts, id, &found);
+    let explained = explain_if(alloc, catalog, ctx, from.table, parts, id, &found);
     drop(found);
     explained
 }
 
 /// The same under the policy expansion, if there is one.
-fn explain_if<'c, S: RowSource<'c>>(
+fn explain_if<'c>(
     alloc: Global,
-    source: &S,
+    catalog: &'c Catalog,
     ctx: &Ctx,
     table: &TableDef,
     parts: &InsertParts,
@@ -118,17 +115,17 @@ fn explain_if<'c, S: RowSource<'c>>(
     found: &Option<PolicyExpansion<'c>>,
 ) -> Result<Items<Explained>, AllocError>
     requires { ctx.now.next + length parts.now.tuples ≤ 4294967295 }
-    ensures { IfOk result (λ explained. explained ≡ spec.insert_found (S.state source.now) ctx.now.role id ctx.now.txn ctx.now.next table.now.columns parts.now.places.items parts.now.tuples found.now) }
+    ensures { IfOk result (λ explained. explained ≡ spec.insert_found catalog.now ctx.now.role id ctx.now.txn ctx.now.next table.now.columns parts.now.places.items parts.now.tuples found.now) }
 {
     match found {
-        Some(expansion) => explain_under(alloc, source, ctx, table, parts, id, expansion),
+        Some(expansion) => explain_under(alloc, catalog, ctx, table, parts, id, expansion),
         None => Ok(Items::new(alloc)),
     }
 }
 
-fn explain_under<'c, S: RowSource<'c>>(
+fn explain_under<'c>(
     alloc: Global,
-    source: &S,
+    catalog: &'c Catalog,
     ctx: &Ctx,
     table: &TableDef,
     parts: &InsertParts,
@@ -136,17 +133,17 @@ fn explain_under<'c, S: RowSource<'c>>(
     expansion: &PolicyExpansion<'c>,
 ) -> Result<Items<Explained>, AllocError>
     requires { ctx.now.next + length parts.now.tuples ≤ 4294967295 }
-    ensures { IfOk result (λ explained. explained ≡ spec.insert_found (S.state source.now) ctx.now.role id ctx.now.txn ctx.now.next table.now.columns parts.now.places.items parts.now.tuples (Some expansion.now)) }
+    ensures { IfOk result (λ explained. explained ≡ spec.insert_found catalog.now ctx.now.role id ctx.now.txn ctx.now.next table.now.columns parts.now.places.items parts.now.tuples (Some expansion.now)) }
 {
     let context = new_rows(expansion, &ctx.role);
     let columns = table.columns.as_slice();
-    explain_tuples(alloc, source, ctx, context, columns, parts, id)
+    explain_tuples(alloc, catalog, ctx, context, columns, parts, id)
 }
 
 /// The rows are numbered on from the transaction's next.
-fn explain_tuples<'a, 'c, S: RowSource<'c>>(
+fn explain_tuples<'a, 'c>(
     alloc: Global,
-    source: &S,
+    catalog: &'c Catalog,
     ctx: &Ctx,
     context: CheckContext<'a, 'c>,
     columns: &[Column],
@@ -154,7 +151,7 @@ fn explain_tuples<'a, 'c, S: RowSource<'c>>(
     id: RowId,
 ) -> Result<Items<Explained>, AllocError>
     requires { ctx.now.next + length parts.now.tuples ≤ 4294967295 }
-    ensures { IfOk result (λ explained. explained ≡ spec.tuples_found (S.state source.now) (shows context.entry.relations.now context.entry.role.now) context.entry.role.now context.entry.row_checks.now columns.now parts.now.places.items id ctx.now.txn ctx.now.next parts.now.tuples) }
+    ensures { IfOk result (λ explained. explained ≡ spec.tuples_found catalog.now (shows context.entry.relations.now context.entry.role.now) context.entry.role.now context.entry.row_checks.now columns.now parts.now.places.items id ctx.now.txn ctx.now.next parts.now.tuples) }
 {
     let mut explained = Vec::new(alloc);
     let mut n = ctx.next;
@@ -164,7 +161,7 @@ fn explain_tuples<'a, 'c, S: RowSource<'c>>(
         if is_same_id(id, own) {
             put_new(
                 alloc,
-                source,
+                catalog,
                 context,
                 columns,
                 places,
@@ -179,9 +176,9 @@ fn explain_tuples<'a, 'c, S: RowSource<'c>>(
 }
 
 /// Explains the decisions on the row of the tuple; none where a value is out of range.
-fn put_new<'a, 'c, S: RowSource<'c>>(
+fn put_new<'a, 'c>(
     alloc: Global,
-    source: &S,
+    catalog: &'c Catalog,
     context: CheckContext<'a, 'c>,
     columns: &[Column],
     places: &[usize],
@@ -189,11 +186,11 @@ fn put_new<'a, 'c, S: RowSource<'c>>(
     tuple: &[Expr],
     explained: &mut Vec<Explained>,
 ) -> Result<(), AllocError>
-    ensures { OnOk result (explained.new.items ≡ explained.old.items ++ spec.new_found (S.state source.now) (shows context.entry.relations.now context.entry.role.now) context.entry.role.now context.entry.row_checks.now id (spec.row_written (S.state source.now) (shows context.entry.relations.now context.entry.role.now) (alone context.entry.role.now) columns.now places.now tuple.now (spec_nulls columns.now))) }
+    ensures { OnOk result (explained.new.items ≡ explained.old.items ++ spec.new_found catalog.now (shows context.entry.relations.now context.entry.role.now) context.entry.role.now context.entry.row_checks.now id (spec.row_written catalog.now (shows context.entry.relations.now context.entry.role.now) (alone context.entry.role.now) columns.now places.now tuple.now (spec_nulls columns.now))) }
 {
-    match new_row(alloc, source, context, columns, places, tuple) {
+    match new_row(alloc, catalog, context, columns, places, tuple) {
         Ok(row) => {
-            let put = put_row(alloc, source, context, id, &row, explained);
+            let put = put_row(alloc, catalog, context, id, &row, explained);
             drop(row);
             put
         }
@@ -206,15 +203,15 @@ fn put_new<'a, 'c, S: RowSource<'c>>(
 }
 
 /// The row of the tuple; columns without a value are null.
-pub fn new_row<'a, 'c, S: RowSource<'c>>(
+pub fn new_row<'a, 'c>(
     alloc: Global,
-    source: &S,
+    catalog: &'c Catalog,
     context: CheckContext<'a, 'c>,
     columns: &[Column],
     places: &[usize],
     tuple: &[Expr],
 ) -> Result<Row, Refusal>
-    ensures { Gives result (spec.row_written (S.state source.now) (shows context.entry.relations.now context.entry.role.now) (alone context.entry.role.now) columns.now places.now tuple.now (spec_nulls columns.now)) }
+    ensures { Gives result (spec.row_written catalog.now (shows context.entry.relations.now context.entry.role.now) (alone context.entry.role.now) columns.now places.now tuple.now (spec_nulls columns.now)) }
 {
     let row = nulls(alloc, columns)?;
     let env = Env {
@@ -223,7 +220,7 @@ pub fn new_row<'a, 'c, S: RowSource<'c>>(
     };
     row_written(
         alloc,
-        source,
+        catalog,
         context.relations,
         &env,
         columns,

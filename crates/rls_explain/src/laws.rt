@@ -2,9 +2,9 @@
 
 ghost use Rattle.std.specs.Prelude.{◌≡◌, map};
 ghost use Rattle.std.specs.List.{All};
-ghost use Rattle.rls_meaning.specs.rls_guard.specs.rls_catalog.specs.State.{State};
+ghost use Rattle.rls_meaning.specs.rls_access.specs.rls_guard.specs.rls_catalog.specs.State.{State};
 ghost use Rattle.rls_statement.specs.declared.statement.Statement.{Statement};
-ghost use Rattle.rls_meaning.specs.rls_guard.specs.declared.context.Ctx.{Ctx};
+ghost use Rattle.rls_meaning.specs.rls_access.specs.rls_guard.specs.declared.context.Ctx.{Ctx};
 ghost use Rattle.rls_meaning.specs.Meaning.{effect_of};
 ghost use Rattle.rls_explain.specs.Explaining.{IsOfTruths, decisions_of, explained_all};
 ghost use Rattle.rls_explain.specs.Found.{DeleteIsFound, InsertHasRoom, InsertIsFound, SelectIsFound, UpdateIsFound};

@@ -2,10 +2,10 @@
 
 ghost use Rattle.std.specs.Prelude.{◌≡◌, ◌++◌, Some, true, map, IfOk, OnOk};
 ghost use Rattle.rls_value.specs.Giving.{Gives};
-ghost use Rattle.rls_meaning.specs.rls_guard.specs.rls_catalog.specs.State.{table_of};
+ghost use Rattle.rls_meaning.specs.rls_access.specs.rls_guard.specs.rls_catalog.specs.State.{table_of};
 ghost use Rattle.rls_expr.specs.Scopes.{in_scope};
 ghost use Rattle.rls_statement.specs.declared.statement.Statement.TheVariants as asked;
-ghost use Rattle.rls_meaning.specs.rls_guard.specs.rls_evaluation.specs.{Environments.over, Showing.shows};
+ghost use Rattle.rls_meaning.specs.rls_access.specs.rls_guard.specs.rls_evaluation.specs.{Environments.over, Showing.shows};
 ghost use Rattle.rls_judging.specs.ScannedRows.{pinned_key};
 ghost use Rattle.rls_meaning.specs.{Meaning.effect_of, Showing.rows_at_key};
 ghost use Rattle.rls_meaning.specs.rls_expansion.specs.Used.{all_tables, tables_if};
@@ -22,126 +22,120 @@ use rls_expr::{Column, Expr, FromTable, TableDef};
 use rls_judging::CheckContext;
 use rls_meaning::rls_access::Ctx;
 use rls_meaning::rls_expansion::PolicyExpansion;
-use rls_meaning::rls_guard::rls_catalog::BorrowedRow;
+use rls_meaning::rls_guard::rls_catalog::{BorrowedRow, Catalog};
 use rls_meaning::rls_guard::rls_evaluation::{Env, Scoped, SecuredRelation};
-use rls_meaning::rls_guard::rls_source::RowSource;
 use rls_statement::Update;
 use rls_value::{Items, Kind, Name, Refusal, Row, RowId};
 use std::alloc::{AllocError, Global};
 
 /// Explains the decisions of an UPDATE on the rows of that number, and on what would come of them.
 #[tactic(auto, using(crate::proofs::DecidedLemmas::update_without_table))]
-pub fn explain_update<'c, S: RowSource<'c>>(
+pub fn explain_update(
     alloc: Global,
-    source: &mut S,
+    catalog: &Catalog,
     ctx: &Ctx,
     update: &Update,
     reads: bool,
     id: RowId,
 ) -> Result<Items<Explained>, AllocError>
-    requires decided { spec.is_decided id (decisions_of (effect_of (S.state source.old) ctx.now (asked.Update update.now))) ≡ true }
-    requires reads { spec.are_read (decisions_of (effect_of (S.state source.old) ctx.now (asked.Update update.now))) ≡ reads }
-    ensures row { IfOk result (λ explained. explained ≡ explained_in (S.state source.old) ctx.now (asked.Update update.now) (Some id)) }
-    ensures state { S.state source.new ≡ S.state source.old }
+    requires decided { spec.is_decided id (decisions_of (effect_of catalog.now ctx.now (asked.Update update.now))) ≡ true }
+    requires reads { spec.are_read (decisions_of (effect_of catalog.now ctx.now (asked.Update update.now))) ≡ reads }
+    ensures { IfOk result (λ explained. explained ≡ explained_in catalog.now ctx.now (asked.Update update.now) (Some id)) }
 {
-    match source.table(alloc, &update.table)? {
-        Some(table) => explain_updated(alloc, source, ctx, update, table, reads, id),
+    match catalog.table(&update.table) {
+        Some(table) => explain_updated(alloc, catalog, ctx, update, table, reads, id),
         None => Ok(Items::new(alloc)),
     }
 }
 
 /// The same of a table that is there.
-fn explain_updated<'c, S: RowSource<'c>>(
+fn explain_updated(
     alloc: Global,
-    source: &mut S,
+    catalog: &Catalog,
     ctx: &Ctx,
     update: &Update,
     table: &TableDef,
     reads: bool,
     id: RowId,
 ) -> Result<Items<Explained>, AllocError>
-    requires there { table_of (S.state source.old) update.now.table ≡ Some table.now }
-    requires decided { spec.is_decided id (decisions_of (effect_of (S.state source.old) ctx.now (asked.Update update.now))) ≡ true }
-    requires reads { spec.are_read (decisions_of (effect_of (S.state source.old) ctx.now (asked.Update update.now))) ≡ reads }
-    ensures row { IfOk result (λ explained. explained ≡ explained_in (S.state source.old) ctx.now (asked.Update update.now) (Some id)) }
-    ensures state { S.state source.new ≡ S.state source.old }
+    requires there { table_of catalog.now update.now.table ≡ Some table.now }
+    requires decided { spec.is_decided id (decisions_of (effect_of catalog.now ctx.now (asked.Update update.now))) ≡ true }
+    requires reads { spec.are_read (decisions_of (effect_of catalog.now ctx.now (asked.Update update.now))) ≡ reads }
+    ensures { IfOk result (λ explained. explained ≡ explained_in catalog.now ctx.now (asked.Update update.now) (Some id)) }
 {
     decisions_found();
     let from = FromTable {
         name: &update.table,
         table,
     };
-    let parts = update_parts(alloc, source, from, update)?;
-    let explained = explain_parts(alloc, source, &ctx.role, from, &parts, reads, id);
+    let parts = update_parts(alloc, catalog, from, update)?;
+    let explained = explain_parts(alloc, catalog, &ctx.role, from, &parts, reads, id);
     drop(parts);
     explained
 }
 
 /// Explains the decisions by the parts of the statement.
-fn explain_parts<'c, 'x, S: RowSource<'c>>(
+fn explain_parts<'x>(
     alloc: Global,
-    source: &mut S,
+    catalog: &Catalog,
     role: &Name,
     from: FromTable<'x>,
     parts: &UpdateParts,
     reads: bool,
     id: RowId,
 ) -> Result<Items<Explained>, AllocError>
-    ensures row { IfOk result (λ explained. explained ≡ spec.update_found (S.state source.old) role.now id from.entry.table.now.columns parts.now.places.items parts.now.values parts.now.condition (rows_at_key (S.state source.old) from.entry.name.now (pinned_key role.now from.entry.table.now.key parts.now.condition)) (spec.expansion_found (S.state source.old) role.now (in_scope from.entry) Kind.Update reads (all_tables parts.now.values ++ tables_if parts.now.condition))) }
-    ensures state { S.state source.new ≡ S.state source.old }
+    ensures { IfOk result (λ explained. explained ≡ spec.update_found catalog.now role.now id from.entry.table.now.columns parts.now.places.items parts.now.values parts.now.condition (rows_at_key catalog.now from.entry.name.now (pinned_key role.now from.entry.table.now.key parts.now.condition)) (spec.expansion_found catalog.now role.now (in_scope from.entry) Kind.Update reads (all_tables parts.now.values ++ tables_if parts.now.condition))) }
 {
     let queries = parts.tables(alloc)?;
     let kind = Kind::Update;
-    let found = expansion_if(alloc, source, role, from, kind, reads, queries.as_slice());
+    let found = expansion_if(alloc, catalog, role, from, kind, reads, queries.as_slice());
     drop(queries);
     let found = found?;
-    let explained = explain_if(alloc, source, role, from, parts, id, &found);
+    let explained = explain_if(alloc, catalog, role, from, parts, id, &found);
     drop(found);
     explained
 }
 
 /// The same under the policy expansion, if there is one.
-fn explain_if<'c, 'x, S: RowSource<'c>>(
+fn explain_if<'c, 'x>(
     alloc: Global,
-    source: &mut S,
+    catalog: &'c Catalog,
     role: &Name,
     from: FromTable<'x>,
     parts: &UpdateParts,
     id: RowId,
     found: &Option<PolicyExpansion<'c>>,
 ) -> Result<Items<Explained>, AllocError>
-    ensures row { IfOk result (λ explained. explained ≡ spec.update_found (S.state source.old) role.now id from.entry.table.now.columns parts.now.places.items parts.now.values parts.now.condition (rows_at_key (S.state source.old) from.entry.name.now (pinned_key role.now from.entry.table.now.key parts.now.condition)) found.now) }
-    ensures state { S.state source.new ≡ S.state source.old }
+    ensures { IfOk result (λ explained. explained ≡ spec.update_found catalog.now role.now id from.entry.table.now.columns parts.now.places.items parts.now.values parts.now.condition (rows_at_key catalog.now from.entry.name.now (pinned_key role.now from.entry.table.now.key parts.now.condition)) found.now) }
 {
     match found {
-        Some(expansion) => explain_under(alloc, source, role, from, parts, id, expansion),
+        Some(expansion) => explain_under(alloc, catalog, role, from, parts, id, expansion),
         None => Ok(Items::new(alloc)),
     }
 }
 
-fn explain_under<'c, 'x, S: RowSource<'c>>(
+fn explain_under<'c, 'x>(
     alloc: Global,
-    source: &mut S,
+    catalog: &'c Catalog,
     role: &Name,
     from: FromTable<'x>,
     parts: &UpdateParts,
     id: RowId,
     expansion: &PolicyExpansion<'c>,
 ) -> Result<Items<Explained>, AllocError>
-    ensures row { IfOk result (λ explained. explained ≡ spec.update_found (S.state source.old) role.now id from.entry.table.now.columns parts.now.places.items parts.now.values parts.now.condition (rows_at_key (S.state source.old) from.entry.name.now (pinned_key role.now from.entry.table.now.key parts.now.condition)) (Some expansion.now)) }
-    ensures state { S.state source.new ≡ S.state source.old }
+    ensures { IfOk result (λ explained. explained ≡ spec.update_found catalog.now role.now id from.entry.table.now.columns parts.now.places.items parts.now.values parts.now.condition (rows_at_key catalog.now from.entry.name.now (pinned_key role.now from.entry.table.now.key parts.now.condition)) (Some expansion.now)) }
 {
-    let rows = rows_scanned(alloc, source, role, from, &parts.condition)?;
+    let rows = rows_scanned(alloc, catalog, role, from, &parts.condition)?;
     let rows = rows.as_slice();
-    let qualifying = rows_qualifying(alloc, source, role, expansion, &parts.condition, rows)?;
+    let qualifying = rows_qualifying(alloc, catalog, role, expansion, &parts.condition, rows)?;
     let mut explained = Vec::new(alloc);
     let old = old_rows(expansion, role);
     let new = new_rows(expansion, role);
     let columns = from.table.columns.as_slice();
-    put_rows(alloc, &*source, old, id, rows, &mut explained)?;
+    put_rows(alloc, catalog, old, id, rows, &mut explained)?;
     put_versions(
         alloc,
-        &*source,
+        catalog,
         new,
         columns,
         parts,
@@ -153,9 +147,9 @@ fn explain_under<'c, 'x, S: RowSource<'c>>(
 }
 
 /// Explains the decisions on the new versions of the rows of that number, behind those that are there.
-fn put_versions<'a, 'c, S: RowSource<'c>>(
+fn put_versions<'a, 'c>(
     alloc: Global,
-    source: &S,
+    catalog: &'c Catalog,
     context: CheckContext<'a, 'c>,
     columns: &[Column],
     parts: &UpdateParts,
@@ -163,36 +157,36 @@ fn put_versions<'a, 'c, S: RowSource<'c>>(
     rows: &[&BorrowedRow<'c>],
     explained: &mut Vec<Explained>,
 ) -> Result<(), AllocError>
-    ensures { OnOk result (explained.new.items ≡ explained.old.items ++ spec.versions_found (S.state source.now) (shows context.entry.relations.now context.entry.role.now) context.entry.role.now context.entry.row_checks.now columns.now parts.now.places.items parts.now.values id (map (λ row. row.now) rows.now)) }
+    ensures { OnOk result (explained.new.items ≡ explained.old.items ++ spec.versions_found catalog.now (shows context.entry.relations.now context.entry.role.now) context.entry.role.now context.entry.row_checks.now columns.now parts.now.places.items parts.now.values id (map (λ row. row.now) rows.now)) }
 {
     for stored in rows {
         if is_same_id(id, stored.id()) {
-            put_version(alloc, source, context, columns, parts, stored, explained)?;
+            put_version(alloc, catalog, context, columns, parts, stored, explained)?;
         }
     }
     Ok(())
 }
 
 /// Explains the decisions on the new version of the row; none where a value is out of range.
-fn put_version<'a, 'c, S: RowSource<'c>>(
+fn put_version<'a, 'c>(
     alloc: Global,
-    source: &S,
+    catalog: &'c Catalog,
     context: CheckContext<'a, 'c>,
     columns: &[Column],
     parts: &UpdateParts,
     stored: &BorrowedRow<'c>,
     explained: &mut Vec<Explained>,
 ) -> Result<(), AllocError>
-    ensures { OnOk result (explained.new.items ≡ explained.old.items ++ spec.new_found (S.state source.now) (shows context.entry.relations.now context.entry.role.now) context.entry.role.now context.entry.row_checks.now stored.now.id (spec.row_written (S.state source.now) (shows context.entry.relations.now context.entry.role.now) (over context.entry.role.now stored.now.row) columns.now parts.now.places.items parts.now.values stored.now.row)) }
+    ensures { OnOk result (explained.new.items ≡ explained.old.items ++ spec.new_found catalog.now (shows context.entry.relations.now context.entry.role.now) context.entry.role.now context.entry.row_checks.now stored.now.id (spec.row_written catalog.now (shows context.entry.relations.now context.entry.role.now) (over context.entry.role.now stored.now.row) columns.now parts.now.places.items parts.now.values stored.now.row)) }
 {
     let relations = &*context.relations;
     let role = &*context.role;
     let places = parts.places.as_slice();
     let terms = parts.values.as_slice();
     let row = stored.row();
-    match new_version(alloc, source, relations, role, columns, places, terms, row) {
+    match new_version(alloc, catalog, relations, role, columns, places, terms, row) {
         Ok(row) => {
-            let put = put_row(alloc, source, context, stored.id(), &row, explained);
+            let put = put_row(alloc, catalog, context, stored.id(), &row, explained);
             drop(row);
             put
         }
@@ -205,9 +199,9 @@ fn put_version<'a, 'c, S: RowSource<'c>>(
 }
 
 /// The row with its new values, over itself as it stands.
-pub fn new_version<'a, 'c, S: RowSource<'c>>(
+pub fn new_version<'a, 'c>(
     alloc: Global,
-    source: &S,
+    catalog: &'c Catalog,
     relations: &'a [SecuredRelation<'c>],
     role: &'a Name,
     columns: &[Column],
@@ -215,7 +209,7 @@ pub fn new_version<'a, 'c, S: RowSource<'c>>(
     terms: &'a [Expr],
     row: &'a Row,
 ) -> Result<Row, Refusal>
-    ensures { Gives result (spec.row_written (S.state source.now) (shows relations.now role.now) (over role.now row.now) columns.now places.now terms.now row.now) }
+    ensures { Gives result (spec.row_written catalog.now (shows relations.now role.now) (over role.now row.now) columns.now places.now terms.now row.now) }
 {
     let values = row.to_vec(alloc)?;
     let nothing = Scoped::Nothing;
@@ -225,7 +219,7 @@ pub fn new_version<'a, 'c, S: RowSource<'c>>(
     };
     row_written(
         alloc,
-        source,
+        catalog,
         &*relations,
         &env,
         columns,

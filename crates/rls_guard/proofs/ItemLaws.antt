@@ -2,10 +2,10 @@
 use Rattle.std.specs.Prelude.{◌≡◌, refl, Bool, true, false, ◌||◌, not, List, [], ◌∷◌, Ok}
 use Rattle.std.proofs.Common.{ap, sym, ◌∙◌}
 use Rattle.std.proofs.lemmas.Bool.{true≢false}
-use Rattle.rls_expr.specs.rls_value.specs.{declared.value.Value.Value, declared.value.Value.TheVariants.Null, declared.value.Value.TheVariants.Text, declared.value.Value.TheVariants.Bool as Flag, declared.truth.Truth.Truth, declared.truth.Truth.TheVariants.True, declared.truth.Truth.TheVariants.False, Truths.negation_of, Values.value_of_truth, Values.truth_in, Values.is_null, Values.value_at}
-use Rattle.rls_expr.specs.declared.expr.Sign.{Sign}
-use Rattle.rls_expr.specs.Terms.{Term, Terms, Literal, Column, Var, CurrentUser, Compare, And, Or, Not, IsNull, IsNotNull, InList, NotInList, Exists, InSubquery, NotInSubquery, Scalar, Sum, End, More}
-use Rattle.rls_expr.specs.Parts.{has_query, has_sum, have_query}
+use Rattle.rls_evaluation.specs.rls_catalog.specs.rls_expr.specs.rls_value.specs.{declared.value.Value.Value, declared.value.Value.TheVariants.Null, declared.value.Value.TheVariants.Text, declared.value.Value.TheVariants.Bool as Flag, declared.truth.Truth.Truth, declared.truth.Truth.TheVariants.True, declared.truth.Truth.TheVariants.False, Truths.negation_of, Values.value_of_truth, Values.truth_in, Values.is_null, Values.value_at}
+use Rattle.rls_evaluation.specs.rls_catalog.specs.rls_expr.specs.declared.expr.Sign.{Sign}
+use Rattle.rls_evaluation.specs.rls_catalog.specs.rls_expr.specs.Terms.{Term, Terms, Literal, Column, Var, CurrentUser, Compare, And, Or, Not, IsNull, IsNotNull, InList, NotInList, Exists, InSubquery, NotInSubquery, Scalar, Sum, End, More}
+use Rattle.rls_evaluation.specs.rls_catalog.specs.rls_expr.specs.Parts.{has_query, has_sum, have_query}
 use Rattle.rls_evaluation.specs.rls_catalog.specs.State.{State}
 use Rattle.rls_evaluation.specs.rls_source.specs.Readings.{Reading, unread, read_then}
 use Rattle.rls_evaluation.specs.{Environments.Environment, Environments.row_at, Environments.compared, Environments.joined, Environments.number_or_null, Plain.IsPlainly}

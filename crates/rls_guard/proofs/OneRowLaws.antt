@@ -3,8 +3,8 @@ use Rattle.std.specs.Prelude.{◌≡◌, refl, ℕ, ◌≤◌, List, [], ◌∷�
 use Rattle.std.specs.{BTreeMap.is_at, Cmp.IsTotalOrder, List.Sorted.IsStrictlySortedBy, Str.bytes_eq, declared.cmp.Ordering.TheVariants.Less}
 use Rattle.std.specs.{List.AllByRecursion, List.list_any, Map.lookup, Map.keys_of, Ordering.is_eq, Ordering.ordering_reverse}
 use Rattle.std.proofs.{Common.ap, Common.sym, Common.subst, Common.◌∙◌, Common.arith, lemmas.Bool.true≢false, lemmas.Cmp.tied_itself, lemmas.Cmp.on_total, lemmas.Cmp.then_total, lemmas.Cmp.nat_cmp_total}
-use Rattle.rls_expr.specs.rls_value.specs.{declared.refusal.Refusal.Refusal, declared.row.RowId.RowId, declared.value.Value.Value, Giving.and_then, Values.is_null}
-use Rattle.rls_expr.specs.{declared.expr.FromItem.FromItem, declared.expr.Selects.Selects, declared.table.TableDef.TableDef, Terms.Terms, Terms.End, Terms.More, Terms.Select}
+use Rattle.rls_evaluation.specs.rls_catalog.specs.rls_expr.specs.rls_value.specs.{declared.refusal.Refusal.Refusal, declared.row.RowId.RowId, declared.value.Value.Value, Giving.and_then, Values.is_null}
+use Rattle.rls_evaluation.specs.rls_catalog.specs.rls_expr.specs.{declared.expr.FromItem.FromItem, declared.expr.Selects.Selects, declared.table.TableDef.TableDef, Terms.Terms, Terms.End, Terms.More, Terms.Select}
 use Rattle.rls_evaluation.specs.rls_catalog.specs.{declared.stored.Keyed.Keyed, declared.stored.Stored.Stored, InOrder.Ascend, SoundRows.AreSound, SoundRows.AreSoundIn, SoundRows.KeysAreUnique, SoundRows.RowsAreSound, SoundRows.StandsAt, State.entries_of, State.State, State.id_order, State.is_same_id, State.is_same_row, State.rows_with_key, State.stored_of, State.table_of, State.with_key}
 use Rattle.rls_evaluation.specs.rls_catalog.proofs.SameRows.{same_row}
 use Rattle.rls_evaluation.specs.rls_source.specs.{Asked.asked_key, Asked.keyed_at, Askings.Asking, Askings.asked_if, Askings.followed_by, Askings.known}

@@ -2,9 +2,9 @@
 use Rattle.std.specs.Prelude.{◌≡◌, refl, ℕ, zero, suc, List, [], ◌∷◌, Bool, true, false, not, ◌&&◌, ◌||◌, is_some}
 use Rattle.std.proofs.Common.{sym, ◌∙◌}
 use Rattle.std.proofs.lemmas.Bool.{true≢false}
-use Rattle.rls_expr.specs.declared.expr.Comparison.TheVariants as c
-use Rattle.rls_expr.specs.{declared.expr.FromItem.FromItem, declared.expr.Selects.Selects}
-use Rattle.rls_expr.specs.Terms.{Term, Terms, Literal, Var, CurrentUser, Compare, And, Scalar, End, More, Select}
+use Rattle.rls_evaluation.specs.rls_catalog.specs.rls_expr.specs.declared.expr.Comparison.TheVariants as c
+use Rattle.rls_evaluation.specs.rls_catalog.specs.rls_expr.specs.{declared.expr.FromItem.FromItem, declared.expr.Selects.Selects}
+use Rattle.rls_evaluation.specs.rls_catalog.specs.rls_expr.specs.Terms.{Term, Terms, Literal, Var, CurrentUser, Compare, And, Scalar, End, More, Select}
 use Rattle.rls_evaluation.specs.Environments.{Environment}
 use Rattle.rls_evaluation.specs.Keys.{is_column, key_of, known_value, outer_value, pin_among, pin_by, pin_in, pin_of, pinned}
 use Rattle.rls_guard.specs.Support.{is_unsupported, nowhere, pins_key, query_unsupported}

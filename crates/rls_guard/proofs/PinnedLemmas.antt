@@ -2,7 +2,7 @@
 use Rattle.std.specs.Prelude.{◌≡◌, refl, ℕ, zero, suc, nat_eq, List, Bool, true, false, not, ◌&&◌, ◌||◌, Option, Some, None, is_some, if◌then◌else◌}
 use Rattle.std.proofs.Common.{ap, sym}
 use Rattle.std.proofs.Math.Dec.{eqb-suc-zero}
-use Rattle.rls_expr.specs.rls_value.specs.declared.value.Value.{Value}
+use Rattle.rls_evaluation.specs.rls_catalog.specs.rls_expr.specs.rls_value.specs.declared.value.Value.{Value}
 use Rattle.rls_evaluation.specs.{Environments.Environment, Keys.or_else, Keys.outer_value, Keys.with_pin}
 
 -- a column further out has a value, one of the subquery's own has none

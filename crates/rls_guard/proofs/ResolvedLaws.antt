@@ -3,8 +3,8 @@ use Rattle.std.specs.Prelude.{◌≡◌, ℕ, ◌≤◌, List, [], ◌∷◌, �
 use Rattle.std.specs.Str.{bytes_eq}
 use Rattle.std.proofs.Common.{ap, sym, refl, subst, ◌∙◌}
 use Rattle.std.proofs.lemmas.Option.{none-some}
-use Rattle.rls_expr.specs.rls_value.specs.{declared.refusal.Refusal.Refusal, declared.refusal.Refusal.TheVariants.Undefined, Giving.and_then, declared.refusal.NameKind.NameKind}
-use Rattle.rls_expr.specs.{declared.table.TableDef.TableDef, Scopes.InScope, Scopes.known_table, Scopes.var_in, Naming.Step, Naming.Look, Naming.Enter, Naming.Leave, Terms.Query, Terms.Scalar, Terms.Select, Terms.qualifier_of, Resolving.Names, Resolving.definition_of, Resolving.inside, Resolving.items_of, Resolving.resolved, Resolving.resolved_all, Resolving.query_over, Resolving.query_resolved}
+use Rattle.rls_evaluation.specs.rls_catalog.specs.rls_expr.specs.rls_value.specs.{declared.refusal.Refusal.Refusal, declared.refusal.Refusal.TheVariants.Undefined, Giving.and_then, declared.refusal.NameKind.NameKind}
+use Rattle.rls_evaluation.specs.rls_catalog.specs.rls_expr.specs.{declared.table.TableDef.TableDef, Scopes.InScope, Scopes.known_table, Scopes.var_in, Naming.Step, Naming.Look, Naming.Enter, Naming.Leave, Terms.Query, Terms.Scalar, Terms.Select, Terms.qualifier_of, Resolving.Names, Resolving.definition_of, Resolving.inside, Resolving.items_of, Resolving.resolved, Resolving.resolved_all, Resolving.query_over, Resolving.query_resolved}
 use Rattle.rls_evaluation.specs.rls_catalog.specs.{SoundRows.RowsAreSound, State.State, State.table_of}
 use Rattle.rls_evaluation.specs.rls_catalog.proofs.Walks.{bytes_same}
 use Rattle.rls_evaluation.specs.rls_source.specs.{Asked.table_at, Named.found_or, Named.table_or_undefined}

@@ -1,8 +1,8 @@
 -- What a role's privileges tell is what the rules over a state say.
 use Rattle.std.specs.Prelude.{◌≡◌, refl, ℕ, List}
-use Rattle.rls_expr.specs.rls_value.specs.declared.verb.Privilege.{Privilege}
-use Rattle.rls_expr.specs.rls_value.specs.declared.verb.Kind.{Kind}
-use Rattle.rls_expr.specs.declared.table.TableDef.{TableDef}
+use Rattle.rls_evaluation.specs.rls_catalog.specs.rls_expr.specs.rls_value.specs.declared.verb.Privilege.{Privilege}
+use Rattle.rls_evaluation.specs.rls_catalog.specs.rls_expr.specs.rls_value.specs.declared.verb.Kind.{Kind}
+use Rattle.rls_evaluation.specs.rls_catalog.specs.rls_expr.specs.declared.table.TableDef.{TableDef}
 use Rattle.rls_evaluation.specs.rls_catalog.specs.declared.verdict.Side.{Side}
 use Rattle.rls_evaluation.specs.rls_catalog.specs.State.{State, grants_of, policies_of}
 use Rattle.rls_evaluation.specs.rls_catalog.specs.Membership.{has_privileges_of}

@@ -1,12 +1,12 @@
 -- Worked examples of what is supported, around a table t whose primary key is its column 0. Each is a theorem that computes.
 use Rattle.std.specs.Prelude.{◌≡◌, refl, ℕ, pos, List, [], ◌∷◌, true, false, None, codes}
-use Rattle.rls_expr.specs.rls_value.specs.declared.value.Value.TheVariants as v
-use Rattle.rls_expr.specs.declared.expr.Category.TheVariants as c
-use Rattle.rls_expr.specs.declared.expr.Comparison.TheVariants.{Equal, Less}
-use Rattle.rls_expr.specs.declared.expr.FromItem.{FromItem}
-use Rattle.rls_expr.specs.declared.expr.Selects.TheVariants as s
-use Rattle.rls_expr.specs.declared.expr.Sign.TheVariants.{Plus}
-use Rattle.rls_expr.specs.Terms.{Term, Terms, Literal, Var, CurrentUser, Compare, And, Or, Exists, Scalar, Sum, End, More, Select}
+use Rattle.rls_evaluation.specs.rls_catalog.specs.rls_expr.specs.rls_value.specs.declared.value.Value.TheVariants as v
+use Rattle.rls_evaluation.specs.rls_catalog.specs.rls_expr.specs.declared.expr.Category.TheVariants as c
+use Rattle.rls_evaluation.specs.rls_catalog.specs.rls_expr.specs.declared.expr.Comparison.TheVariants.{Equal, Less}
+use Rattle.rls_evaluation.specs.rls_catalog.specs.rls_expr.specs.declared.expr.FromItem.{FromItem}
+use Rattle.rls_evaluation.specs.rls_catalog.specs.rls_expr.specs.declared.expr.Selects.TheVariants as s
+use Rattle.rls_evaluation.specs.rls_catalog.specs.rls_expr.specs.declared.expr.Sign.TheVariants.{Plus}
+use Rattle.rls_evaluation.specs.rls_catalog.specs.rls_expr.specs.Terms.{Term, Terms, Literal, Var, CurrentUser, Compare, And, Or, Exists, Scalar, Sum, End, More, Select}
 use Rattle.rls_guard.specs.Support.{is_unsupported}
 
 -- a column of the innermost table, resolved

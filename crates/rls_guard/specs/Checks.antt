@@ -1,10 +1,10 @@
 -- What a statement is checked for: who may, and what is supported.
 use Rattle.std.specs.Prelude.{ℕ, List, Bool, false, ◌||◌, Result, Ok, Err, if◌then◌else◌}
-use Rattle.rls_expr.specs.rls_value.specs.declared.refusal.Refusal.{Refusal}
-use Rattle.rls_expr.specs.rls_value.specs.declared.refusal.Refusal.TheVariants.{Denied}
-use Rattle.rls_expr.specs.rls_value.specs.declared.refusal.Why.TheVariants.{Admin}
-use Rattle.rls_expr.specs.Parts.{has_query, has_sum}
-use Rattle.rls_expr.specs.Terms.{Term}
+use Rattle.rls_evaluation.specs.rls_catalog.specs.rls_expr.specs.rls_value.specs.declared.refusal.Refusal.{Refusal}
+use Rattle.rls_evaluation.specs.rls_catalog.specs.rls_expr.specs.rls_value.specs.declared.refusal.Refusal.TheVariants.{Denied}
+use Rattle.rls_evaluation.specs.rls_catalog.specs.rls_expr.specs.rls_value.specs.declared.refusal.Why.TheVariants.{Admin}
+use Rattle.rls_evaluation.specs.rls_catalog.specs.rls_expr.specs.Parts.{has_query, has_sum}
+use Rattle.rls_evaluation.specs.rls_catalog.specs.rls_expr.specs.Terms.{Term}
 use Rattle.rls_evaluation.specs.rls_catalog.specs.Membership.{attributes_in}
 use Rattle.rls_evaluation.specs.rls_source.specs.Askings.{Asking, known, followed_by}
 use Rattle.rls_evaluation.specs.rls_source.specs.Asked.{asked_role}

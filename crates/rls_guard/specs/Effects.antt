@@ -1,7 +1,7 @@
 -- What a statement comes to: it is done, with a reply, decisions on rows, changes and perhaps another role; or it is
 -- refused, and changes nothing.
 use Rattle.std.specs.Prelude.{List, [], None, Result, Ok, Err}
-use Rattle.rls_expr.specs.rls_value.specs.declared.refusal.Refusal.{Refusal}
+use Rattle.rls_evaluation.specs.rls_catalog.specs.rls_expr.specs.rls_value.specs.declared.refusal.Refusal.{Refusal}
 use Rattle.rls_evaluation.specs.rls_catalog.specs.declared.change.Change.{Change}
 use Rattle.rls_guard.specs.declared.effect.Effect.{Effect}
 use Rattle.rls_guard.specs.declared.effect.Effect.TheVariants as effect

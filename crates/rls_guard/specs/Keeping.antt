@@ -1,10 +1,10 @@
 -- What a statement that is done leaves of a state, with its changes put on.
 use Rattle.std.specs.Prelude.{◌≡◌, ℕ, List, Some, Result, Ok, Err}
 use Rattle.std.specs.List.{AllByRecursion}
-use Rattle.rls_expr.specs.rls_value.specs.declared.refusal.Refusal.{Refusal}
+use Rattle.rls_evaluation.specs.rls_catalog.specs.rls_expr.specs.rls_value.specs.declared.refusal.Refusal.{Refusal}
 use Rattle.rls_evaluation.specs.rls_catalog.specs.declared.change.Change.{Change}
 use Rattle.rls_evaluation.specs.rls_catalog.specs.declared.change.Change.TheVariants as c
-use Rattle.rls_expr.specs.declared.table.TableDef.{TableDef}
+use Rattle.rls_evaluation.specs.rls_catalog.specs.rls_expr.specs.declared.table.TableDef.{TableDef}
 use Rattle.rls_evaluation.specs.rls_catalog.specs.State.{State, table_of}
 use Rattle.rls_evaluation.specs.rls_catalog.specs.Changed.{changed_all}
 use Rattle.rls_evaluation.specs.rls_catalog.specs.SoundRows.{RowsAreSound}

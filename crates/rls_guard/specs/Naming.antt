@@ -2,13 +2,13 @@
 -- table of each subquery, in text order. What stands in a subquery is looked for once its table is found.
 use Rattle.std.specs.Prelude.{◌≡◌, List, [], ◌∷◌, ◌++◌, drop, Some, Result, Ok, Err}
 use Rattle.std.specs.List.{AllByRecursion}
-use Rattle.rls_expr.specs.rls_value.specs.declared.refusal.Refusal.{Refusal}
-use Rattle.rls_expr.specs.rls_value.specs.declared.refusal.Refusal.TheVariants.{Undefined}
-use Rattle.rls_expr.specs.declared.expr.Var.{Var}
-use Rattle.rls_expr.specs.Naming.{Step, Look, Enter, Leave}
-use Rattle.rls_expr.specs.Scopes.{InScope, Unknown, var_in}
-use Rattle.rls_expr.specs.Resolving.{Names}
-use Rattle.rls_expr.specs.Terms.{qualifier_of}
+use Rattle.rls_evaluation.specs.rls_catalog.specs.rls_expr.specs.rls_value.specs.declared.refusal.Refusal.{Refusal}
+use Rattle.rls_evaluation.specs.rls_catalog.specs.rls_expr.specs.rls_value.specs.declared.refusal.Refusal.TheVariants.{Undefined}
+use Rattle.rls_evaluation.specs.rls_catalog.specs.rls_expr.specs.declared.expr.Var.{Var}
+use Rattle.rls_evaluation.specs.rls_catalog.specs.rls_expr.specs.Naming.{Step, Look, Enter, Leave}
+use Rattle.rls_evaluation.specs.rls_catalog.specs.rls_expr.specs.Scopes.{InScope, Unknown, var_in}
+use Rattle.rls_evaluation.specs.rls_catalog.specs.rls_expr.specs.Resolving.{Names}
+use Rattle.rls_evaluation.specs.rls_catalog.specs.rls_expr.specs.Terms.{qualifier_of}
 use Rattle.rls_evaluation.specs.rls_catalog.specs.State.{State, table_of}
 use Rattle.rls_evaluation.specs.rls_source.specs.Askings.{Asking, known, followed_by}
 use Rattle.rls_evaluation.specs.rls_source.specs.Named.{table_or_undefined}

@@ -1,9 +1,9 @@
 -- What the current role may do with a table, by its attributes and whose privileges it has.
 use Rattle.std.specs.Prelude.{ℕ, List, ◌∷◌, Bool, ◌||◌, Option, Some, None, Result, Ok, Err, if◌then◌else◌}
-use Rattle.rls_expr.specs.rls_value.specs.{Names.one_of, declared.object.Object.Object, declared.refusal.Refusal.Refusal, declared.refusal.Refusal.TheVariants.Denied, declared.refusal.Why.Why}
-use Rattle.rls_expr.specs.rls_value.specs.declared.object.Object.TheVariants as o
-use Rattle.rls_expr.specs.rls_value.specs.declared.refusal.Why.TheVariants as why
-use Rattle.rls_expr.specs.declared.table.TableDef.{TableDef}
+use Rattle.rls_evaluation.specs.rls_catalog.specs.rls_expr.specs.rls_value.specs.{Names.one_of, declared.object.Object.Object, declared.refusal.Refusal.Refusal, declared.refusal.Refusal.TheVariants.Denied, declared.refusal.Why.Why}
+use Rattle.rls_evaluation.specs.rls_catalog.specs.rls_expr.specs.rls_value.specs.declared.object.Object.TheVariants as o
+use Rattle.rls_evaluation.specs.rls_catalog.specs.rls_expr.specs.rls_value.specs.declared.refusal.Why.TheVariants as why
+use Rattle.rls_evaluation.specs.rls_catalog.specs.rls_expr.specs.declared.table.TableDef.{TableDef}
 use Rattle.rls_evaluation.specs.rls_catalog.specs.State.{State}
 use Rattle.rls_grant.specs.Missing.{missing_in}
 use Rattle.rls_evaluation.specs.rls_catalog.specs.Membership.{attributes_of, walked_by, effective_roles_reads}

@@ -1,8 +1,8 @@
 -- Row security of a table: its security quals, by the policies that apply to the role.
 use Rattle.std.specs.Prelude.{ℕ, List, [], ◌∷◌, Bool, Option, Some, None, if◌then◌else◌}
-use Rattle.rls_expr.specs.rls_value.specs.declared.verb.Kind.{Kind}
-use Rattle.rls_expr.specs.rls_value.specs.declared.verb.Kind.TheVariants as kinds
-use Rattle.rls_expr.specs.{declared.policy.Policy.Policy, Scopes.InScope, Terms.Term, Resolving.resolved}
+use Rattle.rls_evaluation.specs.rls_catalog.specs.rls_expr.specs.rls_value.specs.declared.verb.Kind.{Kind}
+use Rattle.rls_evaluation.specs.rls_catalog.specs.rls_expr.specs.rls_value.specs.declared.verb.Kind.TheVariants as kinds
+use Rattle.rls_evaluation.specs.rls_catalog.specs.rls_expr.specs.{declared.policy.Policy.Policy, Scopes.InScope, Terms.Term, Resolving.resolved}
 use Rattle.rls_evaluation.specs.rls_catalog.specs.declared.verdict.Side.{Side}
 use Rattle.rls_evaluation.specs.rls_catalog.specs.Verdict.{chosen, expression_of}
 use Rattle.rls_evaluation.specs.declared.relation.SecurityQuals.{SecurityQuals}

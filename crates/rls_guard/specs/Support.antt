@@ -2,9 +2,9 @@
 -- subquery that may give more than one row, since its condition doesn't set each column of a primary key equal to what is
 -- known before a row is looked at.
 use Rattle.std.specs.Prelude.{ℕ, List, [], Bool, true, false, not, ◌||◌, is_some}
-use Rattle.rls_expr.specs.declared.expr.Selects.{Selects}
-use Rattle.rls_expr.specs.declared.expr.Selects.TheVariants as s
-use Rattle.rls_expr.specs.Terms.{Term, Terms, Query, Literal, Column, Var, CurrentUser, Compare, And, Or, Not, IsNull, IsNotNull, InList, NotInList, Exists, InSubquery, NotInSubquery, Scalar, Sum, End, More, Select}
+use Rattle.rls_evaluation.specs.rls_catalog.specs.rls_expr.specs.declared.expr.Selects.{Selects}
+use Rattle.rls_evaluation.specs.rls_catalog.specs.rls_expr.specs.declared.expr.Selects.TheVariants as s
+use Rattle.rls_evaluation.specs.rls_catalog.specs.rls_expr.specs.Terms.{Term, Terms, Query, Literal, Column, Var, CurrentUser, Compare, And, Or, Not, IsNull, IsNotNull, InList, NotInList, Exists, InSubquery, NotInSubquery, Scalar, Sum, End, More, Select}
 use Rattle.rls_evaluation.specs.{Environments.Environment, Environments.alone, Keys.key_of}
 
 -- no row is in scope, and no role: which columns are pinned hangs on neither

@@ -1,6 +1,6 @@
 //! What a statement is run in.
 
-use rls_expr::rls_value::Name;
+use rls_evaluation::rls_catalog::rls_expr::rls_value::Name;
 
 /// Whether a transaction may write (PostgreSQL manual, SET TRANSACTION).
 #[derive(Clone, Copy, PartialEq, Eq)]

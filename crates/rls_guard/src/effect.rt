@@ -4,8 +4,8 @@ ghost use Rattle.std.specs.Prelude.{◌≡◌, [], ◌∷◌, IfOk};
 ghost use Rattle.rls_guard.specs.Effects.{writes};
 
 use crate::reply::{Decision, Reply};
+use rls_evaluation::rls_catalog::rls_expr::rls_value::{Items, Name, Refusal};
 use rls_evaluation::rls_catalog::{Change, Delta};
-use rls_expr::rls_value::{Items, Name, Refusal};
 use std::alloc::{AllocError, Global};
 
 /// What a statement comes to.

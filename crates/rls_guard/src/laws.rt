@@ -2,10 +2,10 @@
 
 ghost use Rattle.std.specs.Prelude.{◌≡◌, ◌≤◌, ℕ, List, [], Bool, true, false, Some, IfOk, length};
 ghost use Rattle.std.specs.Option.{is_some};
-ghost use Rattle.rls_expr.specs.rls_value.specs.{declared.verb.Kind.Kind, declared.verb.Privilege.Privilege};
-ghost use Rattle.rls_expr.specs.{declared.expr.FromItem.FromItem, declared.expr.Selects.Selects, Naming.Step, Scopes.InScope, declared.table.TableDef.TableDef};
-ghost use Rattle.rls_expr.specs.Resolving.{Names, definition_of, resolved, query_resolved};
-ghost use Rattle.rls_expr.specs.Terms.{Query, Term, Terms, Scalar, Select};
+ghost use Rattle.rls_evaluation.specs.rls_catalog.specs.rls_expr.specs.rls_value.specs.{declared.verb.Kind.Kind, declared.verb.Privilege.Privilege};
+ghost use Rattle.rls_evaluation.specs.rls_catalog.specs.rls_expr.specs.{declared.expr.FromItem.FromItem, declared.expr.Selects.Selects, Naming.Step, Scopes.InScope, declared.table.TableDef.TableDef};
+ghost use Rattle.rls_evaluation.specs.rls_catalog.specs.rls_expr.specs.Resolving.{Names, definition_of, resolved, query_resolved};
+ghost use Rattle.rls_evaluation.specs.rls_catalog.specs.rls_expr.specs.Terms.{Query, Term, Terms, Scalar, Select};
 ghost use Rattle.rls_evaluation.specs.rls_catalog.specs.{declared.verdict.Side.Side, Privileges.missing, SoundRows.RowsAreSound, Membership.has_privileges_of};
 ghost use Rattle.rls_evaluation.specs.rls_catalog.specs.State.{State, grants_of, policies_of, table_of};
 ghost use Rattle.rls_evaluation.specs.rls_catalog.specs.Verdict.{exempts, is_exempt, chosen, applying_of};

@@ -2,15 +2,17 @@
 
 ghost use Rattle.std.specs.Prelude.{◌≡◌, IfOk};
 ghost use Rattle.std.specs.Option.{option_copied};
-ghost use Rattle.rls_expr.specs.{Resolving.resolved, Scopes.in_scope};
+ghost use Rattle.rls_evaluation.specs.rls_catalog.specs.rls_expr.specs.{Resolving.resolved, Scopes.in_scope};
 ghost use Rattle.rls_guard.specs.Naming.{names_over};
 ghost use Rattle.rls_guard.specs.SecurityQuals as spec;
 
 use crate::role_privileges::RolePrivileges;
 use rls_evaluation::SecurityQuals;
+use rls_evaluation::rls_catalog::rls_expr::rls_value::{Items, Kind, Reference};
+use rls_evaluation::rls_catalog::rls_expr::{
+    Expr, FromTable, NamedTable, Policy, Scope, resolve_columns,
+};
 use rls_evaluation::rls_catalog::{Policies, Side};
-use rls_expr::rls_value::{Items, Kind, Reference};
-use rls_expr::{Expr, FromTable, NamedTable, Policy, Scope, resolve_columns};
 use rls_policy::{chosen, expression_of};
 use std::alloc::{AllocError, Global};
 

@@ -2,9 +2,9 @@
 
 ghost use Rattle.std.specs.Prelude.{◌≡◌, IfOk};
 
+use rls_evaluation::rls_catalog::rls_expr::rls_value::shared::Share;
+use rls_evaluation::rls_catalog::rls_expr::rls_value::{Items, Kind, Row, RowId};
 use rls_evaluation::rls_catalog::{Side, Verdict};
-use rls_expr::rls_value::shared::Share;
-use rls_expr::rls_value::{Items, Kind, Row, RowId};
 use std::alloc::AllocError;
 
 /// What a statement answers that isn't refused.

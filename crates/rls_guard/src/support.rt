@@ -1,12 +1,12 @@
 //! What isn't supported in an expression.
 
 ghost use Rattle.std.specs.Prelude.{◌≡◌, is_some};
-ghost use Rattle.rls_expr.specs.ExprTerms.{query_of};
-ghost use Rattle.rls_expr.specs.Terms.{maybe_term, terms_of};
+ghost use Rattle.rls_evaluation.specs.rls_catalog.specs.rls_expr.specs.ExprTerms.{query_of};
+ghost use Rattle.rls_evaluation.specs.rls_catalog.specs.rls_expr.specs.Terms.{maybe_term, terms_of};
 ghost use Rattle.rls_evaluation.specs.Keys as keys;
 ghost use Rattle.rls_guard.specs.Support as spec;
 
-use rls_expr::{Comparison, Expr, Node, Selects, Subquery};
+use rls_evaluation::rls_catalog::rls_expr::{Comparison, Expr, Node, Selects, Subquery};
 
 /// Whether something stands in a resolved expression, also inside a subquery, that isn't supported: a sum where none may
 /// stand, a `count(*)` in a subquery, a scalar subquery whose condition doesn't pin the primary key of its table.

@@ -7,7 +7,7 @@ use Rattle.std.specs.declared.cmp.Ordering.{Ordering}
 use Rattle.std.specs.declared.cmp.Ordering.TheVariants.{Less, Equal, Greater}
 use Rattle.std.proofs.Common.{ap, sym, subst, ◌∙◌}
 use Rattle.std.proofs.{Math.Numerals.one-add, lemmas.Bool.true≢false}
-use Rattle.rls_check.specs.rls_meaning.specs.rls_guard.specs.rls_source.specs.Sequences.{put_before}
+use Rattle.rls_check.specs.rls_meaning.specs.rls_access.specs.rls_guard.specs.rls_source.specs.Sequences.{put_before}
 
 -- it stands before each of the others
 abbrev Below : {A : Type 0} → (A → A → Ordering) → A → List A → Type 0

@@ -6,23 +6,23 @@ use Rattle.std.proofs.Common.{ap, sym, subst, ◌∙◌}
 use Rattle.rls_value.specs.{declared.object.Object.Object, declared.value.Value.Value, declared.verb.Privilege.Privilege, Giving.and_then, Names.one_of}
 use Rattle.rls_value.specs.declared.verb.Kind.TheVariants as k
 use Rattle.rls_expr.specs.{declared.table.TableDef.TableDef, Terms.Term}
-use Rattle.rls_check.specs.rls_meaning.specs.rls_guard.specs.rls_catalog.specs.{declared.stored.Stored.Stored, Membership.Within, State.State}
-use Rattle.rls_check.specs.rls_meaning.specs.rls_guard.specs.rls_catalog.specs.declared.verdict.Side.TheVariants as side
-use Rattle.rls_check.specs.rls_meaning.specs.rls_guard.specs.rls_source.specs.{Askings.followed_by, Askings.known, Named.table_or_undefined, Readings.read_then, Readings.unread, Sequences.each_of}
+use Rattle.rls_check.specs.rls_meaning.specs.rls_access.specs.rls_guard.specs.rls_catalog.specs.{declared.stored.Stored.Stored, Membership.Within, State.State}
+use Rattle.rls_check.specs.rls_meaning.specs.rls_access.specs.rls_guard.specs.rls_catalog.specs.declared.verdict.Side.TheVariants as side
+use Rattle.rls_check.specs.rls_meaning.specs.rls_access.specs.rls_guard.specs.rls_source.specs.{Askings.followed_by, Askings.known, Named.table_or_undefined, Readings.read_then, Readings.unread, Sequences.each_of}
 use Rattle.rls_statement.specs.{declared.changing.Delete.Delete, declared.changing.Update.Update, declared.statement.Insert.Insert, declared.statement.Select.Select, declared.statement.Statement.Statement}
 use Rattle.rls_statement.specs.declared.statement.Statement.TheVariants as statement
-use Rattle.rls_check.specs.rls_meaning.specs.rls_guard.specs.rls_evaluation.specs.{Environments.alone, Environments.over, Gathering.gathered, Showing.shows}
-use Rattle.rls_check.specs.rls_meaning.specs.rls_guard.specs.{Naming.named, declared.context.Ctx.Ctx, declared.reply.Decision.Decision, RolePrivileges.role_privileges_in, RolePrivileges.role_privileges_of, RolePrivileges.role_privileges_reads}
+use Rattle.rls_check.specs.rls_meaning.specs.rls_access.specs.rls_guard.specs.rls_evaluation.specs.{Environments.alone, Environments.over, Gathering.gathered, Showing.shows}
+use Rattle.rls_check.specs.rls_meaning.specs.rls_access.specs.rls_guard.specs.{Naming.named, declared.context.Ctx.Ctx, declared.reply.Decision.Decision, RolePrivileges.role_privileges_in, RolePrivileges.role_privileges_of, RolePrivileges.role_privileges_reads}
 use Rattle.rls_check.specs.rls_meaning.specs.rls_depth.specs.rls_expansion.specs.{declared.expansion.PolicyExpansion.PolicyExpansion, Expanding.judges_new, Expanding.judges_old, Expanding.permission_checks, Used.all_tables, Used.tables_if}
 use Rattle.rls_check.specs.rls_meaning.specs.rls_depth.proofs.{Tables.within_first, Tables.within_last, Walking.ok_same}
-use Rattle.rls_check.specs.rls_access.specs.rls_judging.specs.{ScannedRows.pinned_key, ScannedRows.scanned_rows, ScannedRows.scanned_rows_with, Judging.decisions_of, Judging.judged_all, Judging.qualifying_rows_of, Valuing.assignments_of, Valuing.tuples_of, Valuing.values_on, Valuing.values_put, Valuing.values_set, Valuing.with_row_values, Valuing.with_values}
-use Rattle.rls_check.specs.rls_access.specs.rls_dml.specs.{declared.analysed_insert.AnalysedInsert.AnalysedInsert, declared.analysed_update.AnalysedUpdate.AnalysedUpdate, declared.deleting.AnalysedDelete.AnalysedDelete, declared.selecting.AnalysedSelect.AnalysedSelect}
-use Rattle.rls_check.specs.rls_access.specs.rls_dml.specs.{Checking.returning_names, Checking.selection_names, Checking.where_names, Checking.where_selected, Writing.checks_of, Writing.order_of, Writing.permissions_or_denied}
-use Rattle.rls_check.specs.rls_access.specs.rls_dml.specs.Deleting.{analysed_delete_for, analysed_delete_in, analysed_delete_names, delete, delete_as, delete_columns, delete_from, delete_qualifying_rows, delete_with_quals, deleted}
-use Rattle.rls_check.specs.rls_access.specs.rls_dml.specs.Inserting.{analysed_insert_for, analysed_insert_in, analysed_insert_named, insert, insert_as, insert_columns, insert_columns_read, insert_into, insert_judged, insert_made, insert_rows, insert_values, insert_with_quals, new_rows, numbered, places_of, tuples_names, tuples_selected, tuples_tables}
-use Rattle.rls_check.specs.rls_access.specs.rls_dml.specs.Inserting.{row_of_tuple as machine_row}
-use Rattle.rls_check.specs.rls_access.specs.rls_dml.specs.Selecting.{analysed_select_for, analysed_select_in, analysed_select_names, listed_by, listed_for, listed_from, qualifier_of, select, select_as, select_columns, select_from}
-use Rattle.rls_check.specs.rls_access.specs.rls_dml.specs.Updating.{analysed_update_for, analysed_update_in, analysed_update_names, analysed_update_tables, assignments_names, places_set, update, update_as, update_columns, update_columns_read, update_in, update_judged, update_made, update_qualifying_rows, update_rows, update_selected, update_values, update_with_quals, updated_row, updated_rows}
+use Rattle.rls_check.specs.rls_audit.specs.rls_core.specs.rls_access.specs.rls_judging.specs.{ScannedRows.pinned_key, ScannedRows.scanned_rows, ScannedRows.scanned_rows_with, Judging.decisions_of, Judging.judged_all, Judging.qualifying_rows_of, Valuing.assignments_of, Valuing.tuples_of, Valuing.values_on, Valuing.values_put, Valuing.values_set, Valuing.with_row_values, Valuing.with_values}
+use Rattle.rls_check.specs.rls_audit.specs.rls_core.specs.rls_access.specs.rls_dml.specs.{declared.analysed_insert.AnalysedInsert.AnalysedInsert, declared.analysed_update.AnalysedUpdate.AnalysedUpdate, declared.deleting.AnalysedDelete.AnalysedDelete, declared.selecting.AnalysedSelect.AnalysedSelect}
+use Rattle.rls_check.specs.rls_audit.specs.rls_core.specs.rls_access.specs.rls_dml.specs.{Checking.returning_names, Checking.selection_names, Checking.where_names, Checking.where_selected, Writing.checks_of, Writing.order_of, Writing.permissions_or_denied}
+use Rattle.rls_check.specs.rls_audit.specs.rls_core.specs.rls_access.specs.rls_dml.specs.Deleting.{analysed_delete_for, analysed_delete_in, analysed_delete_names, delete, delete_as, delete_columns, delete_from, delete_qualifying_rows, delete_with_quals, deleted}
+use Rattle.rls_check.specs.rls_audit.specs.rls_core.specs.rls_access.specs.rls_dml.specs.Inserting.{analysed_insert_for, analysed_insert_in, analysed_insert_named, insert, insert_as, insert_columns, insert_columns_read, insert_into, insert_judged, insert_made, insert_rows, insert_values, insert_with_quals, new_rows, numbered, places_of, tuples_names, tuples_selected, tuples_tables}
+use Rattle.rls_check.specs.rls_audit.specs.rls_core.specs.rls_access.specs.rls_dml.specs.Inserting.{row_of_tuple as machine_row}
+use Rattle.rls_check.specs.rls_audit.specs.rls_core.specs.rls_access.specs.rls_dml.specs.Selecting.{analysed_select_for, analysed_select_in, analysed_select_names, listed_by, listed_for, listed_from, qualifier_of, select, select_as, select_columns, select_from}
+use Rattle.rls_check.specs.rls_audit.specs.rls_core.specs.rls_access.specs.rls_dml.specs.Updating.{analysed_update_for, analysed_update_in, analysed_update_names, analysed_update_tables, assignments_names, places_set, update, update_as, update_columns, update_columns_read, update_in, update_judged, update_made, update_qualifying_rows, update_rows, update_selected, update_values, update_with_quals, updated_row, updated_rows}
 use Rattle.rls_check.specs.rls_meaning.specs.{Analysing.items_of, Commands.Command, Commands.query_tables, Deleting.delete_parts, Evaluating.value, Expanding.IsExpanded, Expanding.IsExpansionIn, Expanding.sees, Inserting.insert_parts, Inserting.row_of_tuple, Naming.table_in, Rows.decisions, Rows.qualifying, Rows.scanned as scanned_in, Rows.shown_to, Selecting.select_parts, Updating.new_version, Updating.update_parts}
 use Rattle.rls_check.specs.rls_meaning.proofs.{Analysing.delete_analysed, Analysing.insert_analysed, Analysing.select_analysed, Analysing.update_analysed, Columns.insert_named, Columns.insert_queries, Columns.read_told, Columns.selected_told, Columns.update_named, Columns.update_queries, Columns.where_named, Columns.where_queries, Inserting.values_same, Naming.named_told, Naming.table_told, Questions.new_values, Questions.put_value, Questions.put_values, Qualifying.gathered_same, Qualifying.looked_told, Replying.mapped_length, Replying.taking_its_own, Replying.with_its_own, Showing.put_values_told, Showing.qualifying_told, Showing.set_values_told}
 use Rattle.rls_check.specs.rls_meaning.specs.{Deleting.delete_command, Inserting.insert_command, Selecting.select_command, Updating.update_command}

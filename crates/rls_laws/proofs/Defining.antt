@@ -12,15 +12,15 @@ use Rattle.rls_value.specs.declared.refusal.Limit.TheVariants as limit
 use Rattle.rls_value.specs.declared.refusal.Why.TheVariants as why
 use Rattle.rls_expr.specs.{declared.expr.Var.Var, declared.policy.Grantee.Grantee, declared.policy.Grantee.TheVariants.Public, declared.policy.Grantee.TheVariants.Role, declared.policy.Policy.Policy, declared.table.Column.Column, declared.table.TableDef.TableDef, Scopes.InScope, Scopes.Unknown, Scopes.var_in, Tables.column_named, Terms.Term}
 use Rattle.rls_expr.specs.Terms as term
-use Rattle.rls_check.specs.rls_meaning.specs.rls_guard.specs.rls_catalog.specs.{Membership.attributes_of, Membership.has_privileges_of, Paths.can_set, PolicyLists.has_policy, PolicyLists.is_named, PolicyLists.with_policy, PolicyLists.without_policy, State.State, State.grants_of, State.policies_of, State.role_of, State.table_of, declared.grant.Grant.Grant}
-use Rattle.rls_check.specs.rls_meaning.specs.rls_guard.specs.rls_catalog.specs.declared.change.Change.TheVariants as c
-use Rattle.rls_check.specs.rls_meaning.specs.rls_guard.specs.rls_catalog.proofs.PolicyListLaws.{created_in_order, dropped_in_order}
+use Rattle.rls_check.specs.rls_meaning.specs.rls_access.specs.rls_guard.specs.rls_catalog.specs.{Membership.attributes_of, Membership.has_privileges_of, Paths.can_set, PolicyLists.has_policy, PolicyLists.is_named, PolicyLists.with_policy, PolicyLists.without_policy, State.State, State.grants_of, State.policies_of, State.role_of, State.table_of, declared.grant.Grant.Grant}
+use Rattle.rls_check.specs.rls_meaning.specs.rls_access.specs.rls_guard.specs.rls_catalog.specs.declared.change.Change.TheVariants as c
+use Rattle.rls_check.specs.rls_meaning.specs.rls_access.specs.rls_guard.specs.rls_catalog.proofs.PolicyListLaws.{created_in_order, dropped_in_order}
 use Rattle.rls_statement.specs.{declared.statement.AlterPolicy.AlterPolicy, declared.statement.AlterRole.AlterRole, declared.statement.AlterTable.AlterTable, declared.statement.CreatePolicy.CreatePolicy, declared.statement.CreateRole.CreateRole, declared.statement.CreateTable.CreateTable, declared.statement.DropPolicy.DropPolicy, declared.statement.RowSecurity.RowSecurity, declared.statement.SetRole.SetRole}
 use Rattle.rls_statement.specs.declared.statement.RowSecurity.TheVariants as security
 use Rattle.rls_statement.specs.declared.statement.Statement.TheVariants as st
 use Rattle.rls_statement.specs.declared.statement.SetRole.TheVariants as set
-use Rattle.rls_check.specs.rls_meaning.specs.rls_guard.specs.{declared.context.Ctx.Ctx, Effects.writes, Naming.there_or_undefined}
-use Rattle.rls_check.specs.rls_meaning.specs.rls_guard.specs.rls_grant.specs.Grantors.{all_privileges}
+use Rattle.rls_check.specs.rls_meaning.specs.rls_access.specs.rls_guard.specs.{declared.context.Ctx.Ctx, Effects.writes, Naming.there_or_undefined}
+use Rattle.rls_check.specs.rls_meaning.specs.rls_access.specs.rls_guard.specs.rls_grant.specs.Grantors.{all_privileges}
 use Rattle.rls_check.specs.rls_meaning.specs.rls_ddl.specs.{AlteringPolicies.has_no_place_for, AlteringPolicies.with_altered, AlteringRoles.role_altered, AlteringTables.altered, CreatingRoles.role_with, NamedPolicies.policy_or_undefined, SettingRoles.sets}
 use Rattle.rls_check.specs.rls_meaning.specs.rls_ddl.proofs.PolicyOrderLaws.{altered_in_order}
 use Rattle.rls_check.specs.Keeping.{HasFirstKey, IsFirstNamed, place_of}

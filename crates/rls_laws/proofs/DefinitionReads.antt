@@ -6,17 +6,17 @@ use Rattle.rls_value.specs.{declared.object.Object.Object, declared.refusal.Refu
 use Rattle.rls_value.specs.declared.object.Object.TheVariants as o
 use Rattle.rls_value.specs.declared.refusal.DefinedKind.TheVariants as kind
 use Rattle.rls_expr.specs.{declared.policy.Grantee.Grantee, declared.policy.Grantee.TheVariants.Public, declared.policy.Grantee.TheVariants.Role, declared.policy.Policy.Policy, declared.table.TableDef.TableDef, Scopes.InScope, Terms.Term, Terms.maybe_term, Naming.names_all}
-use Rattle.rls_check.specs.rls_meaning.specs.rls_guard.specs.rls_catalog.specs.declared.change.Change.TheVariants as change
-use Rattle.rls_check.specs.rls_meaning.specs.rls_guard.specs.rls_catalog.specs.{Membership.effective_roles_reads, Paths.can_set_reads, Paths.has_set, PolicyLists.with_policy, PolicyLists.without_policy, State.State}
-use Rattle.rls_check.specs.rls_meaning.specs.rls_guard.specs.rls_source.specs.{Asked.asked_grants, Asked.asked_policies, Asked.asked_role, Asked.asked_table, Askings.asked_if, Askings.followed_by, Askings.known, Named.grantees_or_undefined, Named.role_or_undefined, Named.table_or_undefined}
+use Rattle.rls_check.specs.rls_meaning.specs.rls_access.specs.rls_guard.specs.rls_catalog.specs.declared.change.Change.TheVariants as change
+use Rattle.rls_check.specs.rls_meaning.specs.rls_access.specs.rls_guard.specs.rls_catalog.specs.{Membership.effective_roles_reads, Paths.can_set_reads, Paths.has_set, PolicyLists.with_policy, PolicyLists.without_policy, State.State}
+use Rattle.rls_check.specs.rls_meaning.specs.rls_access.specs.rls_guard.specs.rls_source.specs.{Asked.asked_grants, Asked.asked_policies, Asked.asked_role, Asked.asked_table, Askings.asked_if, Askings.followed_by, Askings.known, Named.grantees_or_undefined, Named.role_or_undefined, Named.table_or_undefined}
 use Rattle.rls_statement.specs.{declared.statement.AlterPolicy.AlterPolicy, declared.statement.AlterRole.AlterRole, declared.statement.AlterTable.AlterTable, declared.statement.CreatePolicy.CreatePolicy, declared.statement.CreateRole.CreateRole, declared.statement.CreateTable.CreateTable, declared.statement.DropPolicy.DropPolicy, declared.statement.GrantPrivileges.GrantPrivileges, declared.statement.RevokePrivileges.RevokePrivileges, declared.statement.SetRole.SetRole, declared.statement.Statement.Statement}
 use Rattle.rls_statement.specs.declared.statement.SetRole.TheVariants as set
 use Rattle.rls_statement.specs.declared.statement.Statement.TheVariants as statement
-use Rattle.rls_check.specs.rls_meaning.specs.rls_guard.specs.rls_grant.specs.{Columns.columns_or_undefined, Columns.option_or_unsupported, Granting.grant as grant_of, Granting.grant_on, Granting.grant_to, Granting.grants_made, Granting.own_grants, Granting.with_grants, Revoking.grants_revoked, Revoking.revoke as revoke_of, Revoking.revoke_from, Revoking.revoke_on}
-use Rattle.rls_check.specs.rls_meaning.specs.rls_guard.specs.rls_role.specs.Reaching.{effective_roles_of, effective_roles_reads_in}
-use Rattle.rls_check.specs.rls_meaning.specs.rls_guard.specs.{Checks.superuser_or_denied, Naming.named, Naming.names_over, declared.context.Ctx.Ctx, Effects.writes, RolePrivileges.owner_or_denied, RolePrivileges.ownership, RolePrivileges.role_privileges_of, RolePrivileges.role_privileges_reads}
-use Rattle.rls_check.specs.rls_access.specs.rls_ddl.specs.{AlteringPolicies.alter_policy, AlteringPolicies.alteration_made, AlteringPolicies.alteration_of, AlteringPolicies.alteration_on, AlteringPolicies.alteration_over, AlteringPolicies.conditions_or_refused, AlteringPolicies.roles_or_undefined as to_roles_or_undefined, AlteringPolicies.with_altered, AlteringRoles.alter_role, AlteringRoles.role_altered, AlteringRoles.role_changed, AlteringTables.alter_table, AlteringTables.altered, Conditions.condition_names}
-use Rattle.rls_check.specs.rls_access.specs.rls_ddl.specs.{CreatingPolicies.create_policy, CreatingPolicies.policy_added, CreatingPolicies.policy_made, CreatingPolicies.policy_on, CreatingPolicies.policy_or_refused, CreatingRoles.create_role, CreatingRoles.role_made, CreatingRoles.role_with, CreatingTables.create_table, CreatingTables.key_or_undefined, CreatingTables.table_made, CreatingTables.table_unless_taken, CreatingTables.table_with, DroppingPolicies.drop_on, DroppingPolicies.drop_policy, DroppingPolicies.policy_dropped, Granting.grant, Granting.revoke, NamedPolicies.policy_or_undefined, SettingRoles.asked_may_set, SettingRoles.may_set_reads, SettingRoles.role_set, SettingRoles.set_or_denied, SettingRoles.set_role}
+use Rattle.rls_check.specs.rls_meaning.specs.rls_access.specs.rls_guard.specs.rls_grant.specs.{Columns.columns_or_undefined, Columns.option_or_unsupported, Granting.grant as grant_of, Granting.grant_on, Granting.grant_to, Granting.grants_made, Granting.own_grants, Granting.with_grants, Revoking.grants_revoked, Revoking.revoke as revoke_of, Revoking.revoke_from, Revoking.revoke_on}
+use Rattle.rls_check.specs.rls_meaning.specs.rls_access.specs.rls_guard.specs.rls_role.specs.Reaching.{effective_roles_of, effective_roles_reads_in}
+use Rattle.rls_check.specs.rls_meaning.specs.rls_access.specs.rls_guard.specs.{Checks.superuser_or_denied, Naming.named, Naming.names_over, declared.context.Ctx.Ctx, Effects.writes, RolePrivileges.owner_or_denied, RolePrivileges.ownership, RolePrivileges.role_privileges_of, RolePrivileges.role_privileges_reads}
+use Rattle.rls_check.specs.rls_audit.specs.rls_core.specs.rls_access.specs.rls_ddl.specs.{AlteringPolicies.alter_policy, AlteringPolicies.alteration_made, AlteringPolicies.alteration_of, AlteringPolicies.alteration_on, AlteringPolicies.alteration_over, AlteringPolicies.conditions_or_refused, AlteringPolicies.roles_or_undefined as to_roles_or_undefined, AlteringPolicies.with_altered, AlteringRoles.alter_role, AlteringRoles.role_altered, AlteringRoles.role_changed, AlteringTables.alter_table, AlteringTables.altered, Conditions.condition_names}
+use Rattle.rls_check.specs.rls_audit.specs.rls_core.specs.rls_access.specs.rls_ddl.specs.{CreatingPolicies.create_policy, CreatingPolicies.policy_added, CreatingPolicies.policy_made, CreatingPolicies.policy_on, CreatingPolicies.policy_or_refused, CreatingRoles.create_role, CreatingRoles.role_made, CreatingRoles.role_with, CreatingTables.create_table, CreatingTables.key_or_undefined, CreatingTables.table_made, CreatingTables.table_unless_taken, CreatingTables.table_with, DroppingPolicies.drop_on, DroppingPolicies.drop_policy, DroppingPolicies.policy_dropped, Granting.grant, Granting.revoke, NamedPolicies.policy_or_undefined, SettingRoles.asked_may_set, SettingRoles.may_set_reads, SettingRoles.role_set, SettingRoles.set_or_denied, SettingRoles.set_role}
 use Rattle.rls_check.specs.rls_meaning.specs.{Policies.conditions}
 use Rattle.rls_laws.specs.{Reads.MayRead, Reads.LooksUp, Reads.Walk, Reads.looked_up, Reads.roles_among, Reads.tables_among, Reads.walk_of, Walks.Walks}
 use Rattle.rls_laws.proofs.{ReadLists.each_done, ReadLists.each_first, ReadLists.each_if, ReadLists.each_last, ReadLists.each_of_list, ReadLists.each_then, ReadLists.each_weaker, NameReads.both_entered, NameReads.named_reads, NameReads.where_entered, WalkReads.effective_walk, WalkReads.privileges_walk, WalkReads.set_walk}

@@ -5,13 +5,13 @@ use Rattle.std.proofs.Common.{subst, sym}
 use Rattle.std.proofs.lemmas.List.Elements.{All-from_recursion}
 use Rattle.rls_value.specs.{declared.refusal.Refusal.Refusal, declared.tag.Tag.Tag}
 use Rattle.rls_value.specs.declared.tag.Tag.TheVariants as tag
-use Rattle.rls_check.specs.rls_meaning.specs.rls_guard.specs.rls_catalog.specs.{Changed.changed_all, State.State, declared.change.Change.Change}
+use Rattle.rls_check.specs.rls_meaning.specs.rls_access.specs.rls_guard.specs.rls_catalog.specs.{Changed.changed_all, State.State, declared.change.Change.Change}
 use Rattle.rls_statement.specs.{declared.statement.Statement.Statement, Tags.tag_of}
 use Rattle.rls_statement.specs.declared.statement.Statement.TheVariants as statement
-use Rattle.rls_check.specs.rls_meaning.specs.rls_guard.specs.{declared.context.Ctx.Ctx, declared.context.Mode.Mode, declared.effect.Effect.Effect, declared.reply.Decision.Decision, Effects.changes_of}
-use Rattle.rls_check.specs.rls_meaning.specs.rls_guard.specs.declared.context.Mode.TheVariants as mode
-use Rattle.rls_check.specs.rls_meaning.specs.rls_guard.specs.declared.effect.Effect.TheVariants as effect
-use Rattle.rls_check.specs.rls_access.specs.Statements.{effect_in, mode_or_refused}
+use Rattle.rls_check.specs.rls_meaning.specs.rls_access.specs.rls_guard.specs.{declared.context.Ctx.Ctx, declared.context.Mode.Mode, declared.effect.Effect.Effect, declared.reply.Decision.Decision, Effects.changes_of}
+use Rattle.rls_check.specs.rls_meaning.specs.rls_access.specs.rls_guard.specs.declared.context.Mode.TheVariants as mode
+use Rattle.rls_check.specs.rls_meaning.specs.rls_access.specs.rls_guard.specs.declared.effect.Effect.TheVariants as effect
+use Rattle.rls_check.specs.rls_audit.specs.rls_core.specs.rls_access.specs.Statements.{effect_in, mode_or_refused}
 use Rattle.rls_check.specs.rls_audit.specs.{RefusalCodecs.IsAudited, Showing.ArePoliciesSpellable, Showing.CanShow, Showing.CanTell, Showing.IsSpellable}
 use Rattle.rls_check.specs.rls_meaning.specs.Meaning.{StatementMeans, effect_of, meant_in}
 use Rattle.rls_check.specs.rls_meaning.specs.{Memberships.grant_roles_in, Memberships.revoke_roles_in, Privileges.grant_in, Privileges.revoke_in}

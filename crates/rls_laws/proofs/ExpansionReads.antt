@@ -9,18 +9,18 @@ use Rattle.std.proofs.lemmas.Bool.{true≢false, or_right}
 use Rattle.rls_value.specs.{declared.object.Object.Object, declared.refusal.Refusal.Refusal, declared.refusal.Refusal.TheVariants.Unsupported, declared.verb.Privilege.Privilege, Giving.and_then, Names.one_of}
 use Rattle.rls_value.specs.declared.object.Object.TheVariants as o
 use Rattle.rls_expr.specs.{declared.columns.SelectedTable.SelectedTable, declared.policy.Policy.Policy, declared.table.TableDef.TableDef}
-use Rattle.rls_check.specs.rls_meaning.specs.rls_guard.specs.rls_catalog.specs.{Membership.Within, Membership.attributes_of, Membership.fresh, Membership.walked_by, State.State, State.table_of, Verdict.exempts, Verdict.is_exempt}
-use Rattle.rls_check.specs.rls_meaning.specs.rls_guard.specs.rls_catalog.proofs.{Inheriting.among_got, Inheriting.fresh_within, Walks.bytes_own, Walks.one_of-append}
-use Rattle.rls_check.specs.rls_meaning.specs.rls_guard.specs.rls_source.specs.{Asked.asked_grants, Asked.asked_policies, Asked.asked_table, Asked.table_at, Askings.Asking, Askings.followed_by, Askings.known, Sequences.each_or_refused}
-use Rattle.rls_check.specs.rls_meaning.specs.rls_guard.specs.rls_grant.specs.Missing.{missing_in}
-use Rattle.rls_check.specs.rls_meaning.specs.rls_guard.specs.{declared.effect.Effect.Effect, declared.permission_check.PermissionCheck.PermissionCheck, declared.role_privileges.RolePrivileges.RolePrivileges, RolePrivileges.has_owner, RolePrivileges.permission_or_denied, RolePrivileges.refused_for, RolePrivileges.role_privileges_in}
+use Rattle.rls_check.specs.rls_meaning.specs.rls_access.specs.rls_guard.specs.rls_catalog.specs.{Membership.Within, Membership.attributes_of, Membership.fresh, Membership.walked_by, State.State, State.table_of, Verdict.exempts, Verdict.is_exempt}
+use Rattle.rls_check.specs.rls_meaning.specs.rls_access.specs.rls_guard.specs.rls_catalog.proofs.{Inheriting.among_got, Inheriting.fresh_within, Walks.bytes_own, Walks.one_of-append}
+use Rattle.rls_check.specs.rls_meaning.specs.rls_access.specs.rls_guard.specs.rls_source.specs.{Asked.asked_grants, Asked.asked_policies, Asked.asked_table, Asked.table_at, Askings.Asking, Askings.followed_by, Askings.known, Sequences.each_or_refused}
+use Rattle.rls_check.specs.rls_meaning.specs.rls_access.specs.rls_guard.specs.rls_grant.specs.Missing.{missing_in}
+use Rattle.rls_check.specs.rls_meaning.specs.rls_access.specs.rls_guard.specs.{declared.effect.Effect.Effect, declared.permission_check.PermissionCheck.PermissionCheck, declared.role_privileges.RolePrivileges.RolePrivileges, RolePrivileges.has_owner, RolePrivileges.permission_or_denied, RolePrivileges.refused_for, RolePrivileges.role_privileges_in}
 use Rattle.rls_recursion.specs.declared.dependency.PolicyDependency.{PolicyDependency}
 use Rattle.rls_recursion.specs.Searching as searching
 use Rattle.rls_recursion.proofs.Closing.{one_first, one_further}
 use Rattle.rls_check.specs.rls_meaning.specs.rls_depth.specs.rls_expansion.specs.{declared.expansion.PolicyExpansion.PolicyExpansion, Dependencies.dependencies_of, Dependencies.dependency_by, Dependencies.dependency_if, Dependencies.dependency_in, Dependencies.dependency_of, Enough.asked_found, Enough.collect, Enough.visits, Expanding.expansion_by, Expanding.expansion_of, Expanding.own_tables, Expanding.past_policies, Expanding.permission_checks, Leading.named, Policies.policies_for}
 use Rattle.rls_check.specs.rls_meaning.specs.rls_depth.specs.Deep.{policies_in}
 use Rattle.rls_check.specs.rls_meaning.specs.rls_depth.proofs.{ExpansionLaws.policies_told, Tables.within_append, Walking.dependency_at, Walking.dependency_for, Walking.dependency_told, Walking.ok_same}
-use Rattle.rls_check.specs.rls_access.specs.rls_dml.specs.{Checking.has_some, Writing.checks_of, Writing.permissions_or_denied, Writing.readable}
+use Rattle.rls_check.specs.rls_audit.specs.rls_core.specs.rls_access.specs.rls_dml.specs.{Checking.has_some, Writing.checks_of, Writing.permissions_or_denied, Writing.readable}
 use Rattle.rls_check.specs.rls_meaning.specs.{Chains.subquery_tables_in, Commands.Command, Commands.needed_in, Commands.own_of, Commands.privilege_of, Commands.query_tables, Commands.reads, Commands.required, Expanding.IsExpanded, Expanding.IsExpansionIn, Expanding.Made, Expanding.Refused, Naming.provided}
 use Rattle.rls_check.specs.rls_meaning.proofs.{Asking.alike_within, Asking.asked_in, Asking.own_alike, States.own_told, States.subquery_tables_same}
 use Rattle.rls_laws.specs.Reads.{OnRows, ReadsRows, Grants, OwnPolicies, Policies, Table}

@@ -5,10 +5,10 @@ use Rattle.std.proofs.Common.{subst, sym, eqb-true, inl, inr}
 use Rattle.std.proofs.lemmas.Bool.{or_cases, true≢false}
 use Rattle.std.proofs.lemmas.List.{length-map}
 use Rattle.std.proofs.lemmas.List.Elements.{All-from_get_or, All-from_recursion}
-use Rattle.rls_check.specs.rls_meaning.specs.rls_guard.specs.rls_catalog.specs.{Changed.changed_all, Changed.opening, State.State}
+use Rattle.rls_check.specs.rls_meaning.specs.rls_access.specs.rls_guard.specs.rls_catalog.specs.{Changed.changed_all, Changed.opening, State.State}
 use Rattle.rls_statement.specs.declared.statement.Statement.{Statement}
-use Rattle.rls_check.specs.rls_meaning.specs.rls_guard.specs.{Effects.changes_of, declared.context.Ctx.Ctx, declared.effect.Effect.Effect}
-use Rattle.rls_check.specs.rls_access.specs.Transactions.{ctx_after, first_ctx}
+use Rattle.rls_check.specs.rls_meaning.specs.rls_access.specs.rls_guard.specs.{Effects.changes_of, declared.context.Ctx.Ctx, declared.effect.Effect.Effect}
+use Rattle.rls_check.specs.rls_audit.specs.rls_core.specs.rls_access.specs.Transactions.{ctx_after, first_ctx}
 use Rattle.rls_check.specs.rls_meaning.specs.Meaning.{effect_of}
 use Rattle.rls_history.specs.Orders.{none_placed, placed_by, with_placed}
 use Rattle.rls_check.specs.rls_audit.specs.rls_core.specs.{Alone.Explains, Alone.effects_alone, Alone.state_alone, Records.Record, Records.nobody, Records.record_at, Records.transaction_of}

@@ -2,11 +2,11 @@
 use Rattle.std.specs.Prelude.{◌≡◌, ℕ, zero, suc, ◌==◌, ◌<◌, Bool, true, false, List, [], ◌∷◌}
 use Rattle.std.specs.List.{All, AllByRecursion}
 use Rattle.std.proofs.{Common.subst, Common.sym, Common.eqb-true, Common.inl, Common.inr, lemmas.Bool.or_cases, lemmas.Bool.true≢false, lemmas.List.length-map, lemmas.List.Elements.All-from_get_or, lemmas.List.Elements.All-from_recursion, lemmas.List.Elements.All-nil, lemmas.List.Elements.recursion_from_All}
-use Rattle.rls_check.specs.rls_meaning.specs.rls_guard.specs.rls_catalog.specs.{Changed.changed_all, Changed.opening, State.State}
+use Rattle.rls_check.specs.rls_meaning.specs.rls_access.specs.rls_guard.specs.rls_catalog.specs.{Changed.changed_all, Changed.opening, State.State}
 use Rattle.rls_statement.specs.declared.statement.Statement.{Statement}
-use Rattle.rls_check.specs.rls_meaning.specs.rls_guard.specs.{Effects.changes_of, declared.context.Ctx.Ctx, declared.effect.Effect.Effect}
+use Rattle.rls_check.specs.rls_meaning.specs.rls_access.specs.rls_guard.specs.{Effects.changes_of, declared.context.Ctx.Ctx, declared.effect.Effect.Effect}
 use Rattle.rls_history.specs.Orders.{IsOrder, none_placed, placed_by, with_placed}
-use Rattle.rls_check.specs.{rls_access.specs.Transactions.ctx_after, rls_access.specs.Transactions.first_ctx, rls_meaning.specs.Meaning.StatementMeans, rls_meaning.specs.Meaning.effect_of, rls_audit.specs.rls_core.specs.Alone.Explains, rls_audit.specs.rls_core.specs.Alone.effects_alone, rls_audit.specs.rls_core.specs.Alone.state_alone, rls_audit.specs.rls_core.specs.Events.World, rls_audit.specs.rls_core.specs.Headline.AreExplained, rls_audit.specs.rls_core.specs.Headline.HaveOrder, rls_audit.specs.rls_core.specs.Records.Record, rls_audit.specs.rls_core.specs.Records.history_by, rls_audit.specs.rls_core.specs.Records.nobody, rls_audit.specs.rls_core.specs.Records.record_at, rls_audit.specs.rls_core.specs.Records.transaction_of, rls_audit.specs.Showing.AreTexts, rls_audit.specs.Showing.ArePoliciesSpellable, rls_audit.specs.Showing.IsSpellable}
+use Rattle.rls_check.specs.{rls_audit.specs.rls_core.specs.rls_access.specs.Transactions.ctx_after, rls_audit.specs.rls_core.specs.rls_access.specs.Transactions.first_ctx, rls_meaning.specs.Meaning.StatementMeans, rls_meaning.specs.Meaning.effect_of, rls_audit.specs.rls_core.specs.Alone.Explains, rls_audit.specs.rls_core.specs.Alone.effects_alone, rls_audit.specs.rls_core.specs.Alone.state_alone, rls_audit.specs.rls_core.specs.Events.World, rls_audit.specs.rls_core.specs.Headline.AreExplained, rls_audit.specs.rls_core.specs.Headline.HaveOrder, rls_audit.specs.rls_core.specs.Records.Record, rls_audit.specs.rls_core.specs.Records.history_by, rls_audit.specs.rls_core.specs.Records.nobody, rls_audit.specs.rls_core.specs.Records.record_at, rls_audit.specs.rls_core.specs.Records.transaction_of, rls_audit.specs.Showing.AreTexts, rls_audit.specs.Showing.ArePoliciesSpellable, rls_audit.specs.Showing.IsSpellable}
 use Rattle.rls_laws.specs.{InOrder.IsInOrder, Spelled.PoliciesAreTexts, Spelled.StatementsAreTexts}
 use Rattle.rls_laws.proofs.{Ending.effect_texts, Ending.stays_in_order, Fitting.opening_stands, RecordedTexts.all_changed_texts, RecordedTexts.opening_texts}
 

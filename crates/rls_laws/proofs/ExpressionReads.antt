@@ -10,13 +10,13 @@ use Rattle.rls_value.specs.declared.value.Value.TheVariants.{Null, Bool as Flag}
 use Rattle.rls_value.specs.declared.verb.Kind.TheVariants as k
 use Rattle.rls_expr.specs.{declared.expr.Sign.Sign, declared.policy.Policy.Policy, declared.table.TableDef.TableDef, Scopes.InScope}
 use Rattle.rls_expr.specs.Terms.{Term, Terms, Query, Literal, Column, Var, CurrentUser, Compare, And, Or, Not, IsNull, IsNotNull, InList, NotInList, Exists, InSubquery, NotInSubquery, Scalar, Sum, End, More, Select}
-use Rattle.rls_check.specs.rls_meaning.specs.rls_guard.specs.rls_catalog.specs.{declared.verdict.Side.Side, State.State, State.table_of, Verdict.applying_of, Verdict.expression_of, Verdict.is_exempt, Verdict.verdict_of}
-use Rattle.rls_check.specs.rls_meaning.specs.rls_guard.specs.rls_catalog.specs.declared.verdict.Side.TheVariants as side
-use Rattle.rls_check.specs.rls_meaning.specs.rls_guard.specs.rls_source.specs.{Asked.asked_key, Askings.Asking, Askings.asked_if, Askings.followed_by, Askings.known}
-use Rattle.rls_check.specs.rls_meaning.specs.rls_guard.specs.rls_evaluation.specs.{declared.relation.SecurityQuals.TheVariants.Exempt, declared.relation.SecurityQuals.TheVariants.Policies, Environments.Environment, Environments.compared, Environments.inside, Environments.joined, Environments.number_or_null, Environments.over, Gathering.gathered, Gathering.kept, Gathering.with_row, Keys.key_of}
-use Rattle.rls_check.specs.rls_meaning.specs.rls_guard.specs.rls_evaluation.specs.Eval.{Shows, among_items, and_value, as_value, first_item, has_row, item_if, item_of, item_or, meets, negated, or_equal, or_item, or_value, ranged_over, sum_from, sum_of, together, value_of}
-use Rattle.rls_check.specs.rls_meaning.specs.rls_guard.specs.rls_evaluation.specs.Showing.{allows, asked_for, is_allowed, judgements_on, values_of, verdict_on, with_judgement}
-use Rattle.rls_check.specs.rls_meaning.specs.rls_guard.specs.SecurityQuals.{conditions_of, with_condition}
+use Rattle.rls_check.specs.rls_meaning.specs.rls_access.specs.rls_guard.specs.rls_catalog.specs.{declared.verdict.Side.Side, State.State, State.table_of, Verdict.applying_of, Verdict.expression_of, Verdict.is_exempt, Verdict.verdict_of}
+use Rattle.rls_check.specs.rls_meaning.specs.rls_access.specs.rls_guard.specs.rls_catalog.specs.declared.verdict.Side.TheVariants as side
+use Rattle.rls_check.specs.rls_meaning.specs.rls_access.specs.rls_guard.specs.rls_source.specs.{Asked.asked_key, Askings.Asking, Askings.asked_if, Askings.followed_by, Askings.known}
+use Rattle.rls_check.specs.rls_meaning.specs.rls_access.specs.rls_guard.specs.rls_evaluation.specs.{declared.relation.SecurityQuals.TheVariants.Exempt, declared.relation.SecurityQuals.TheVariants.Policies, Environments.Environment, Environments.compared, Environments.inside, Environments.joined, Environments.number_or_null, Environments.over, Gathering.gathered, Gathering.kept, Gathering.with_row, Keys.key_of}
+use Rattle.rls_check.specs.rls_meaning.specs.rls_access.specs.rls_guard.specs.rls_evaluation.specs.Eval.{Shows, among_items, and_value, as_value, first_item, has_row, item_if, item_of, item_or, meets, negated, or_equal, or_item, or_value, ranged_over, sum_from, sum_of, together, value_of}
+use Rattle.rls_check.specs.rls_meaning.specs.rls_access.specs.rls_guard.specs.rls_evaluation.specs.Showing.{allows, asked_for, is_allowed, judgements_on, values_of, verdict_on, with_judgement}
+use Rattle.rls_check.specs.rls_meaning.specs.rls_access.specs.rls_guard.specs.SecurityQuals.{conditions_of, with_condition}
 use Rattle.rls_check.specs.rls_meaning.specs.rls_depth.specs.Deep.{ruled, shown_by, shows_deep}
 use Rattle.rls_check.specs.rls_meaning.specs.{Commands.Command, Expanding.select_quals, Resolving.resolved}
 use Rattle.rls_check.specs.rls_meaning.proofs.Resolving.{state_resolved_told}

@@ -4,9 +4,9 @@ use Rattle.std.specs.List.{AllByRecursion}
 use Rattle.std.proofs.Common.{subst, sym, ◌∙◌}
 use Rattle.std.proofs.lemmas.Option.{none-some, same_Some}
 use Rattle.rls_expr.specs.{declared.policy.Policy.Policy, declared.table.TableDef.TableDef}
-use Rattle.rls_check.specs.rls_meaning.specs.rls_guard.specs.rls_catalog.specs.{Changed.changed, Changed.changed_all, Changed.opening, PolicyLists.InNameOrder, State.State, State.grants_of, State.members_of, State.policies_of, State.table_of, declared.change.Change.Change, declared.grant.Grant.Grant, declared.role.Membership.Membership}
-use Rattle.rls_check.specs.rls_meaning.specs.rls_guard.specs.rls_catalog.specs.declared.change.Change.TheVariants as c
-use Rattle.rls_check.specs.rls_meaning.specs.rls_guard.specs.rls_catalog.proofs.ContentsLaws.{grants_of_changed, is_name, members_of_changed, policies_of_changed, table_of_changed}
+use Rattle.rls_check.specs.rls_meaning.specs.rls_access.specs.rls_guard.specs.rls_catalog.specs.{Changed.changed, Changed.changed_all, Changed.opening, PolicyLists.InNameOrder, State.State, State.grants_of, State.members_of, State.policies_of, State.table_of, declared.change.Change.Change, declared.grant.Grant.Grant, declared.role.Membership.Membership}
+use Rattle.rls_check.specs.rls_meaning.specs.rls_access.specs.rls_guard.specs.rls_catalog.specs.declared.change.Change.TheVariants as c
+use Rattle.rls_check.specs.rls_meaning.specs.rls_access.specs.rls_guard.specs.rls_catalog.proofs.ContentsLaws.{grants_of_changed, is_name, members_of_changed, policies_of_changed, table_of_changed}
 use Rattle.rls_check.specs.Keeping.{HasFirstKey, KeyIsFirst}
 use Rattle.rls_check.specs.rls_audit.specs.Lines.{content_of}
 use Rattle.rls_check.specs.rls_audit.specs.Showing.{ArePoliciesSpellable, CanTell, HasKey}

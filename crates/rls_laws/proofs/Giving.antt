@@ -3,10 +3,10 @@ use Rattle.std.specs.Prelude.{◌≡◌, refl, List, [], ◌∷◌, Bool, true, 
 use Rattle.std.specs.List.{All, AllByRecursion}
 use Rattle.std.proofs.lemmas.List.Elements.{All-cons, All-nil}
 use Rattle.rls_value.specs.{declared.refusal.Refusal.Refusal, Giving.and_then}
-use Rattle.rls_check.specs.rls_meaning.specs.rls_guard.specs.rls_catalog.specs.declared.change.Change.{Change}
-use Rattle.rls_check.specs.rls_meaning.specs.rls_guard.specs.rls_source.specs.{Named.found_or, Sequences.each_of, Sequences.each_or_refused}
-use Rattle.rls_check.specs.rls_meaning.specs.rls_guard.specs.{declared.effect.Effect.Effect, Effects.shown}
-use Rattle.rls_check.specs.rls_meaning.specs.rls_guard.specs.declared.effect.Effect.TheVariants as effect
+use Rattle.rls_check.specs.rls_meaning.specs.rls_access.specs.rls_guard.specs.rls_catalog.specs.declared.change.Change.{Change}
+use Rattle.rls_check.specs.rls_meaning.specs.rls_access.specs.rls_guard.specs.rls_source.specs.{Named.found_or, Sequences.each_of, Sequences.each_or_refused}
+use Rattle.rls_check.specs.rls_meaning.specs.rls_access.specs.rls_guard.specs.{declared.effect.Effect.Effect, Effects.shown}
+use Rattle.rls_check.specs.rls_meaning.specs.rls_access.specs.rls_guard.specs.declared.effect.Effect.TheVariants as effect
 use Rattle.rls_check.specs.rls_audit.specs.RefusalCodecs.{IsAudited}
 use Rattle.rls_check.specs.rls_meaning.specs.Naming.{provided}
 

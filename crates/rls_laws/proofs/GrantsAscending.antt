@@ -4,9 +4,9 @@ use Rattle.std.specs.{Cmp.IsTotalOrder, List.list_any, Ordering.is_eq, Ordering.
 use Rattle.std.specs.declared.cmp.Ordering.TheVariants.{Less, Equal}
 use Rattle.std.proofs.lemmas.{Cmp.nat_cmp_total, Cmp.nat_list_cmp_total, Cmp.on_total, Cmp.then_total, List.Kept.IsStrictlySortedBy-filter}
 use Rattle.rls_expr.specs.declared.policy.Grantee.{Grantee}
-use Rattle.rls_check.specs.rls_meaning.specs.rls_guard.specs.rls_catalog.specs.{GrantOptions.not_grantable, declared.grant.Grant.Grant}
-use Rattle.rls_check.specs.rls_meaning.specs.rls_guard.specs.rls_source.specs.Sequences.{put_before}
-use Rattle.rls_check.specs.rls_meaning.specs.rls_guard.specs.rls_grant.specs.{Granting.grant_order, Granting.grantee_order, Granting.place_of}
+use Rattle.rls_check.specs.rls_meaning.specs.rls_access.specs.rls_guard.specs.rls_catalog.specs.{GrantOptions.not_grantable, declared.grant.Grant.Grant}
+use Rattle.rls_check.specs.rls_meaning.specs.rls_access.specs.rls_guard.specs.rls_source.specs.Sequences.{put_before}
+use Rattle.rls_check.specs.rls_meaning.specs.rls_access.specs.rls_guard.specs.rls_grant.specs.{Granting.grant_order, Granting.grantee_order, Granting.place_of}
 use Rattle.rls_check.specs.rls_meaning.specs.Grants.{put_grant}
 use Rattle.rls_laws.specs.InOrder.{GrantsAscend}
 use Rattle.rls_laws.proofs.Ascending.{mapped_ascends, put_ascends}

@@ -7,12 +7,12 @@ use Rattle.rls_value.specs.declared.refusal.Refusal.TheVariants as r
 use Rattle.rls_value.specs.declared.refusal.GrantFault.TheVariants as fault
 use Rattle.rls_value.specs.declared.refusal.Why.TheVariants as why
 use Rattle.rls_expr.specs.{declared.policy.Grantee.Grantee, declared.table.Column.Column, declared.table.TableDef.TableDef}
-use Rattle.rls_check.specs.rls_meaning.specs.rls_guard.specs.rls_catalog.specs.{Changed.changed, GrantOptions.grantor_of, GrantOptions.not_grantable, Membership.fresh, Paths.closes_circle, Paths.may_grant, State.State, State.grants_of, State.members_of, declared.change.Change.Change, declared.grant.Grant.Grant}
-use Rattle.rls_check.specs.rls_meaning.specs.rls_guard.specs.rls_catalog.specs.declared.change.Change.TheVariants as c
-use Rattle.rls_check.specs.rls_meaning.specs.rls_guard.specs.rls_source.specs.Sequences.{each_or_refused}
+use Rattle.rls_check.specs.rls_meaning.specs.rls_access.specs.rls_guard.specs.rls_catalog.specs.{Changed.changed, GrantOptions.grantor_of, GrantOptions.not_grantable, Membership.fresh, Paths.closes_circle, Paths.may_grant, State.State, State.grants_of, State.members_of, declared.change.Change.Change, declared.grant.Grant.Grant}
+use Rattle.rls_check.specs.rls_meaning.specs.rls_access.specs.rls_guard.specs.rls_catalog.specs.declared.change.Change.TheVariants as c
+use Rattle.rls_check.specs.rls_meaning.specs.rls_access.specs.rls_guard.specs.rls_source.specs.Sequences.{each_or_refused}
 use Rattle.rls_statement.specs.{declared.statement.GrantPrivileges.GrantPrivileges, declared.statement.GrantRoles.GrantRoles, declared.statement.MembershipOptions.MembershipOptions, declared.privileges.Privileges.Privileges, Extents.extent_of, Extents.granted_on, Extents.has_columns, Extents.is_named, declared.statement.RevokePrivileges.RevokePrivileges, declared.statement.RevokeRoles.RevokeRoles}
-use Rattle.rls_check.specs.rls_meaning.specs.rls_guard.specs.rls_grant.specs.{declared.grantors.Grantor.Grantor, Columns.column_place, Granting.goes_back, Granting.grant_order, Grantors.all_privileges, Holders.holders_of, Revoking.stays}
-use Rattle.rls_check.specs.rls_meaning.specs.rls_guard.specs.Effects.{writes}
+use Rattle.rls_check.specs.rls_meaning.specs.rls_access.specs.rls_guard.specs.rls_grant.specs.{declared.grantors.Grantor.Grantor, Columns.column_place, Granting.goes_back, Granting.grant_order, Grantors.all_privileges, Holders.holders_of, Revoking.stays}
+use Rattle.rls_check.specs.rls_meaning.specs.rls_access.specs.rls_guard.specs.Effects.{writes}
 use Rattle.rls_check.specs.rls_meaning.specs.{Analysing.place_in, Grants.is_taken, Grants.left_in, Grants.option_in, Grants.put_grant, Meaning.written, Memberships.grant_roles_in, Memberships.in_turn, Memberships.joined_in, Memberships.managed_in, Memberships.memberships_left, Memberships.put_membership, Memberships.revoke_roles_in, Naming.provided, Privileges.columns_in, Privileges.grant_in, Privileges.grantor_in, Privileges.grantors_in, Privileges.option_of_whole, Privileges.revoke_in}
 use Rattle.rls_laws.specs.InOrder.{GrantsAscend, IsInOrder}
 use Rattle.rls_laws.proofs.{Defining.place_gives, Defining.grantees_give, Defining.roles_give, Defining.table_gives, Fitting.Fits, Fitting.changed_in_order, GrantsAscending.put_grants_ascend, GrantsAscending.without_taken_ascend, MembershipsAscending.memberships_left_ascend, MembershipsAscending.put_membership_ascends}

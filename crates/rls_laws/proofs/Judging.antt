@@ -9,15 +9,15 @@ use Rattle.rls_value.specs.declared.verb.Kind.{Kind}
 use Rattle.rls_value.specs.declared.verb.Kind.TheVariants as k
 use Rattle.rls_expr.specs.{Scopes.InScope, Selecting.selected_of, Terms.Term, declared.table.Column.Column, declared.table.TableDef.TableDef}
 use Rattle.rls_expr.specs.Terms as term
-use Rattle.rls_check.specs.rls_meaning.specs.rls_guard.specs.rls_catalog.specs.{Privileges.missing, State.State, declared.change.Change.Change, declared.stored.Stored.Stored, declared.verdict.Verdict.Verdict}
-use Rattle.rls_check.specs.rls_meaning.specs.rls_guard.specs.rls_catalog.specs.declared.verdict.Side.TheVariants as side
-use Rattle.rls_check.specs.rls_meaning.specs.rls_guard.specs.rls_catalog.specs.declared.verdict.Verdict.TheVariants as verdict
-use Rattle.rls_check.specs.rls_meaning.specs.rls_guard.specs.rls_source.specs.Sequences.{each_or_refused}
+use Rattle.rls_check.specs.rls_meaning.specs.rls_access.specs.rls_guard.specs.rls_catalog.specs.{Privileges.missing, State.State, declared.change.Change.Change, declared.stored.Stored.Stored, declared.verdict.Verdict.Verdict}
+use Rattle.rls_check.specs.rls_meaning.specs.rls_access.specs.rls_guard.specs.rls_catalog.specs.declared.verdict.Side.TheVariants as side
+use Rattle.rls_check.specs.rls_meaning.specs.rls_access.specs.rls_guard.specs.rls_catalog.specs.declared.verdict.Verdict.TheVariants as verdict
+use Rattle.rls_check.specs.rls_meaning.specs.rls_access.specs.rls_guard.specs.rls_source.specs.Sequences.{each_or_refused}
 use Rattle.rls_statement.specs.{declared.changing.Delete.Delete, declared.changing.Assignment.Assignment, declared.changing.Update.Update, declared.statement.Insert.Insert, declared.statement.Select.Select, declared.statement.Selected.Selected}
-use Rattle.rls_check.specs.rls_meaning.specs.rls_guard.specs.rls_evaluation.specs.Environments.{alone, over}
-use Rattle.rls_check.specs.rls_meaning.specs.rls_guard.specs.{declared.context.Ctx.Ctx, declared.permission_check.PermissionCheck.PermissionCheck, declared.reply.Decision.Decision, declared.reply.Reply.Reply, RolePrivileges.refused_for}
-use Rattle.rls_check.specs.rls_meaning.specs.rls_guard.specs.declared.effect.Effect.TheVariants as effect
-use Rattle.rls_check.specs.rls_meaning.specs.rls_guard.specs.declared.reply.Reply.TheVariants as reply
+use Rattle.rls_check.specs.rls_meaning.specs.rls_access.specs.rls_guard.specs.rls_evaluation.specs.Environments.{alone, over}
+use Rattle.rls_check.specs.rls_meaning.specs.rls_access.specs.rls_guard.specs.{declared.context.Ctx.Ctx, declared.permission_check.PermissionCheck.PermissionCheck, declared.reply.Decision.Decision, declared.reply.Reply.Reply, RolePrivileges.refused_for}
+use Rattle.rls_check.specs.rls_meaning.specs.rls_access.specs.rls_guard.specs.declared.effect.Effect.TheVariants as effect
+use Rattle.rls_check.specs.rls_meaning.specs.rls_access.specs.rls_guard.specs.declared.reply.Reply.TheVariants as reply
 use Rattle.rls_check.specs.rls_meaning.specs.rls_dml.specs.{declared.analysed_insert.AnalysedInsert.AnalysedInsert, declared.deleting.AnalysedDelete.AnalysedDelete, declared.analysed_update.AnalysedUpdate.AnalysedUpdate, declared.selecting.AnalysedSelect.AnalysedSelect}
 use Rattle.rls_check.specs.rls_meaning.specs.rls_dml.specs.{Checking.columns_at, Inserting.is_given, Inserting.nulls, Inserting.numbered, Updating.places_set, Writing.assigned, Writing.given_to, Writing.has_doubles, Writing.is_written, Writing.keys_of, Writing.order_of, Writing.verdict_or_denied}
 use Rattle.rls_check.specs.rls_meaning.specs.{Analysing.columns_in, Analysing.items_of, Analysing.items_resolved, Analysing.of_both, Analysing.of_value, Analysing.place_in, Naming.provided, Parts.found_in, Resolving.resolved}

@@ -4,10 +4,10 @@ use Rattle.std.specs.List.{AllByRecursion}
 use Rattle.rls_value.specs.{declared.object.Object.Object, declared.refusal.Refusal.TheVariants.Unique, declared.value.Value.Value}
 use Rattle.rls_value.specs.declared.object.Object.TheVariants as o
 use Rattle.rls_expr.specs.declared.table.Column.{Column}
-use Rattle.rls_check.specs.rls_meaning.specs.rls_guard.specs.rls_catalog.specs.{declared.stored.Stored.Stored, State.State}
-use Rattle.rls_check.specs.rls_meaning.specs.rls_guard.specs.rls_source.specs.{Asked.asked_key, Askings.followed_by, Askings.known, Sequences.each_or_refused}
-use Rattle.rls_check.specs.rls_meaning.specs.rls_guard.specs.declared.reply.Decision.{Decision}
-use Rattle.rls_check.specs.rls_access.specs.rls_dml.specs.Writing.{constraints_or_refused, first_denial, has_doubles, has_values, keys_of, keys_taken, rows_or_refused, stays_any, unique_or_refused, unless_denied}
+use Rattle.rls_check.specs.rls_meaning.specs.rls_access.specs.rls_guard.specs.rls_catalog.specs.{declared.stored.Stored.Stored, State.State}
+use Rattle.rls_check.specs.rls_meaning.specs.rls_access.specs.rls_guard.specs.rls_source.specs.{Asked.asked_key, Askings.followed_by, Askings.known, Sequences.each_or_refused}
+use Rattle.rls_check.specs.rls_meaning.specs.rls_access.specs.rls_guard.specs.declared.reply.Decision.{Decision}
+use Rattle.rls_check.specs.rls_audit.specs.rls_core.specs.rls_access.specs.rls_dml.specs.Writing.{constraints_or_refused, first_denial, has_doubles, has_values, keys_of, keys_taken, rows_or_refused, stays_any, unique_or_refused, unless_denied}
 use Rattle.rls_laws.specs.Reads.{OnRows, ReadsRows, NewKey}
 use Rattle.rls_laws.proofs.ReadLists.{each_done, each_of_list, each_then}
 

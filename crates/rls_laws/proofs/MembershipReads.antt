@@ -11,17 +11,17 @@ use Rattle.std.proofs.lemmas.Bool.{true≢false, or_left, or_right}
 use Rattle.std.proofs.lemmas.List.{take-append-drop, map-append}
 use Rattle.rls_value.specs.{declared.object.Object.Object, Names.one_of}
 use Rattle.rls_value.specs.declared.object.Object.TheVariants as o
-use Rattle.rls_check.specs.rls_meaning.specs.rls_guard.specs.rls_catalog.specs.{declared.role.Membership.Membership, declared.role.RoleDef.RoleDef, Membership.effective_roles_reads, Membership.fresh, Membership.visit_reads, Membership.walk_reads, Paths.Reaches, Paths.granted_where, Paths.held_if, Paths.is_any, Paths.reached_where, State.State, State.members_of, State.name_order, State.role_of}
-use Rattle.rls_check.specs.rls_meaning.specs.rls_guard.specs.rls_catalog.specs.Paths as paths
-use Rattle.rls_check.specs.rls_meaning.specs.rls_guard.specs.rls_catalog.proofs.{Inheriting.fresh_within, Reaching.reached_where_reaches, Walks.bytes_same, Walks.one_of-append}
+use Rattle.rls_check.specs.rls_meaning.specs.rls_access.specs.rls_guard.specs.rls_catalog.specs.{declared.role.Membership.Membership, declared.role.RoleDef.RoleDef, Membership.effective_roles_reads, Membership.fresh, Membership.visit_reads, Membership.walk_reads, Paths.Reaches, Paths.granted_where, Paths.held_if, Paths.is_any, Paths.reached_where, State.State, State.members_of, State.name_order, State.role_of}
+use Rattle.rls_check.specs.rls_meaning.specs.rls_access.specs.rls_guard.specs.rls_catalog.specs.Paths as paths
+use Rattle.rls_check.specs.rls_meaning.specs.rls_access.specs.rls_guard.specs.rls_catalog.proofs.{Inheriting.fresh_within, Reaching.reached_where_reaches, Walks.bytes_same, Walks.one_of-append}
 use Rattle.rls_recursion.proofs.Closing.{one_first, one_further}
-use Rattle.rls_check.specs.rls_meaning.specs.rls_guard.specs.rls_source.specs.{Askings.Asking, Askings.followed_by, Askings.known, Named.role_or_undefined, Named.roles_or_undefined, Sequences.each_or_refused, Sequences.put_before}
+use Rattle.rls_check.specs.rls_meaning.specs.rls_access.specs.rls_guard.specs.rls_source.specs.{Askings.Asking, Askings.followed_by, Askings.known, Named.role_or_undefined, Named.roles_or_undefined, Sequences.each_or_refused, Sequences.put_before}
 use Rattle.rls_statement.specs.{declared.statement.GrantRoles.GrantRoles, declared.statement.MembershipOptions.MembershipOptions, declared.statement.RevokeRoles.RevokeRoles}
 use Rattle.rls_statement.specs.declared.statement.Statement.TheVariants as statement
-use Rattle.rls_check.specs.rls_meaning.specs.rls_guard.specs.rls_role.specs.{declared.holding.HeldMembership.HeldMembership, Reaching.effective_roles_in, Reaching.effective_roles_of, Reaching.effective_roles_reads_in, Holdings.held_as, Holdings.listed, Holdings.members_held, Holdings.with_held, Revoking.memberships_revoked, Revoking.revoke_member, Revoking.roles_revoked, Revoking.taken_in}
-use Rattle.rls_check.specs.rls_meaning.specs.rls_guard.specs.rls_role.specs.Granting.{asked_held, asked_managed, asked_path, each_granted, each_managed, grant_member, granted_to, has_role, held_at, held_in, held_one, joined, joined_in, managed_or_denied, managed_or_refused, members_written, membership_with, memberships_granted, new_membership, pair_granted, pair_or_refused, path_in, role_granted, roles_granted, with_options}
-use Rattle.rls_check.specs.rls_meaning.specs.rls_guard.specs.{declared.context.Ctx.Ctx, Effects.writes}
-use Rattle.rls_check.specs.rls_access.specs.rls_ddl.specs.Granting.{grant_roles, revoke_roles}
+use Rattle.rls_check.specs.rls_meaning.specs.rls_access.specs.rls_guard.specs.rls_role.specs.{declared.holding.HeldMembership.HeldMembership, Reaching.effective_roles_in, Reaching.effective_roles_of, Reaching.effective_roles_reads_in, Holdings.held_as, Holdings.listed, Holdings.members_held, Holdings.with_held, Revoking.memberships_revoked, Revoking.revoke_member, Revoking.roles_revoked, Revoking.taken_in}
+use Rattle.rls_check.specs.rls_meaning.specs.rls_access.specs.rls_guard.specs.rls_role.specs.Granting.{asked_held, asked_managed, asked_path, each_granted, each_managed, grant_member, granted_to, has_role, held_at, held_in, held_one, joined, joined_in, managed_or_denied, managed_or_refused, members_written, membership_with, memberships_granted, new_membership, pair_granted, pair_or_refused, path_in, role_granted, roles_granted, with_options}
+use Rattle.rls_check.specs.rls_meaning.specs.rls_access.specs.rls_guard.specs.{declared.context.Ctx.Ctx, Effects.writes}
+use Rattle.rls_check.specs.rls_audit.specs.rls_core.specs.rls_access.specs.rls_ddl.specs.Granting.{grant_roles, revoke_roles}
 use Rattle.rls_check.specs.rls_meaning.specs.rls_depth.proofs.Walking.{and_then_ok, ok_same}
 use Rattle.rls_laws.specs.Reads.{MayRead, Climb, roles_and_members}
 use Rattle.rls_laws.specs.Walks.{Climbs, Itself, Made, Through}

@@ -5,11 +5,11 @@ use Rattle.std.specs.declared.cmp.Ordering.{Ordering}
 use Rattle.std.proofs.Common.{◌∙◌}
 use Rattle.std.proofs.lemmas.{Cmp.nat_list_cmp_total, Cmp.on_total, List.Kept.IsStrictlySortedBy-filter, Map.Text.is_eq-slice_cmp}
 use Rattle.rls_value.specs.Names.{one_of}
-use Rattle.rls_check.specs.rls_meaning.specs.rls_guard.specs.rls_catalog.specs.{declared.role.Membership.Membership, State.name_order}
-use Rattle.rls_check.specs.rls_meaning.specs.rls_guard.specs.rls_source.specs.Sequences.{put_before}
+use Rattle.rls_check.specs.rls_meaning.specs.rls_access.specs.rls_guard.specs.rls_catalog.specs.{declared.role.Membership.Membership, State.name_order}
+use Rattle.rls_check.specs.rls_meaning.specs.rls_access.specs.rls_guard.specs.rls_source.specs.Sequences.{put_before}
 use Rattle.rls_statement.specs.{declared.statement.MembershipOption.MembershipOption, declared.statement.MembershipOptions.MembershipOptions}
 use Rattle.rls_statement.specs.declared.statement.MembershipOption.TheVariants as option
-use Rattle.rls_check.specs.rls_meaning.specs.rls_guard.specs.rls_role.specs.{Granting.membership_with, Revoking.without}
+use Rattle.rls_check.specs.rls_meaning.specs.rls_access.specs.rls_guard.specs.rls_role.specs.{Granting.membership_with, Revoking.without}
 use Rattle.rls_check.specs.rls_meaning.specs.Memberships.{memberships_left, put_membership}
 use Rattle.rls_laws.specs.InOrder.{MembershipsAscend}
 use Rattle.rls_laws.proofs.Ascending.{mapped_ascends, put_ascends}

@@ -6,12 +6,12 @@ use Rattle.std.proofs.Common.{ap, sym, subst, ◌∙◌}
 use Rattle.rls_value.specs.declared.object.Object.{Object}
 use Rattle.rls_value.specs.declared.object.Object.TheVariants as o
 use Rattle.rls_expr.specs.{Naming.Step, Naming.Look, Naming.Enter, Naming.Leave, Naming.entered, Naming.names_of, Naming.names_all, Scopes.InScope, Scopes.var_in, Terms.Term, Terms.qualifier_of, Terms.terms_of}
-use Rattle.rls_check.specs.rls_meaning.specs.rls_guard.specs.rls_catalog.specs.State.{State}
-use Rattle.rls_check.specs.rls_meaning.specs.rls_guard.specs.rls_source.specs.{Askings.known, Named.table_or_undefined}
+use Rattle.rls_check.specs.rls_meaning.specs.rls_access.specs.rls_guard.specs.rls_catalog.specs.State.{State}
+use Rattle.rls_check.specs.rls_meaning.specs.rls_access.specs.rls_guard.specs.rls_source.specs.{Askings.known, Named.table_or_undefined}
 use Rattle.rls_statement.specs.{declared.changing.Assignment.Assignment, declared.statement.Selected.Selected}
 use Rattle.rls_statement.specs.declared.statement.Selected.TheVariants as selected
-use Rattle.rls_check.specs.rls_meaning.specs.rls_guard.specs.Naming.{named, there_or_undefined}
-use Rattle.rls_check.specs.rls_access.specs.rls_dml.specs.{Checking.returning_names, Checking.selection_names, Checking.where_names, Inserting.tuples_names, Updating.assignments_names}
+use Rattle.rls_check.specs.rls_meaning.specs.rls_access.specs.rls_guard.specs.Naming.{named, there_or_undefined}
+use Rattle.rls_check.specs.rls_audit.specs.rls_core.specs.rls_access.specs.rls_dml.specs.{Checking.returning_names, Checking.selection_names, Checking.where_names, Inserting.tuples_names, Updating.assignments_names}
 use Rattle.rls_check.specs.rls_meaning.specs.{Analysing.items_of, Parts.tables_of}
 use Rattle.rls_check.specs.rls_meaning.proofs.{Listing.flat_append, NamedParts.tuples_names_told, NamedParts.where_names_told, Parts.tables_told}
 use Rattle.rls_laws.specs.Reads.{tables_among}

@@ -7,9 +7,9 @@ use Rattle.std.specs.declared.cmp.Ordering.TheVariants.{Less, Equal, Greater}
 use Rattle.std.proofs.Common.{sym, subst}
 use Rattle.std.proofs.lemmas.List.Elements.{All-contains_itself, All-weaker, recursion_from_All}
 use Rattle.rls_value.specs.{declared.object.Object.Object, declared.refusal.Refusal.Refusal, Objects.object_order}
-use Rattle.rls_check.specs.rls_meaning.specs.rls_guard.specs.rls_catalog.specs.State.{State}
-use Rattle.rls_check.specs.rls_meaning.specs.rls_guard.specs.rls_source.specs.{Askings.Asking, Askings.asked_if, Askings.followed_by, Askings.known, Footprints.footprint_of, Footprints.with_object, Footprints.with_reads, Readings.Reading, Readings.next_reads}
-use Rattle.rls_check.specs.rls_meaning.specs.rls_guard.specs.rls_evaluation.specs.Gathering.{gathered}
+use Rattle.rls_check.specs.rls_meaning.specs.rls_access.specs.rls_guard.specs.rls_catalog.specs.State.{State}
+use Rattle.rls_check.specs.rls_meaning.specs.rls_access.specs.rls_guard.specs.rls_source.specs.{Askings.Asking, Askings.asked_if, Askings.followed_by, Askings.known, Footprints.footprint_of, Footprints.with_object, Footprints.with_reads, Readings.Reading, Readings.next_reads}
+use Rattle.rls_check.specs.rls_meaning.specs.rls_access.specs.rls_guard.specs.rls_evaluation.specs.Gathering.{gathered}
 
 -- ---- lists
 

@@ -4,12 +4,12 @@ use Rattle.std.specs.List.{All, AllByRecursion}
 use Rattle.std.proofs.Common.{subst, sym}
 use Rattle.std.proofs.lemmas.List.Elements.{All-from_recursion, recursion_from_All}
 use Rattle.rls_expr.specs.declared.policy.Policy.{Policy}
-use Rattle.rls_check.specs.rls_meaning.specs.rls_guard.specs.rls_catalog.specs.{Changed.changed, Changed.changed_all, Changed.opening, State.State, State.policies_of, declared.change.Change.Change}
-use Rattle.rls_check.specs.rls_meaning.specs.rls_guard.specs.rls_catalog.specs.declared.change.Change.TheVariants as c
-use Rattle.rls_check.specs.rls_meaning.specs.rls_guard.specs.rls_catalog.proofs.ContentsLaws.{is_name, policies_of_changed, same_name}
+use Rattle.rls_check.specs.rls_meaning.specs.rls_access.specs.rls_guard.specs.rls_catalog.specs.{Changed.changed, Changed.changed_all, Changed.opening, State.State, State.policies_of, declared.change.Change.Change}
+use Rattle.rls_check.specs.rls_meaning.specs.rls_access.specs.rls_guard.specs.rls_catalog.specs.declared.change.Change.TheVariants as c
+use Rattle.rls_check.specs.rls_meaning.specs.rls_access.specs.rls_guard.specs.rls_catalog.proofs.ContentsLaws.{is_name, policies_of_changed, same_name}
 use Rattle.rls_statement.specs.declared.statement.Statement.{Statement}
-use Rattle.rls_check.specs.rls_meaning.specs.rls_guard.specs.{Effects.changes_of, declared.effect.Effect.Effect}
-use Rattle.rls_check.specs.rls_access.specs.{Statements.effect_in, Transactions.Begin, Transactions.first_ctx, Transactions.may_begin}
+use Rattle.rls_check.specs.rls_meaning.specs.rls_access.specs.rls_guard.specs.{Effects.changes_of, declared.effect.Effect.Effect}
+use Rattle.rls_check.specs.rls_audit.specs.rls_core.specs.rls_access.specs.{Statements.effect_in, Transactions.Begin, Transactions.first_ctx, Transactions.may_begin}
 use Rattle.rls_check.specs.rls_audit.specs.rls_core.specs.{Events.Event, Events.Rules, Events.Running, Events.World, Events.after, Events.begin, Events.commit, Events.happens, Events.is_taken, Events.post, Events.posted_in, Events.run, Events.seen_by, Records.Record, Records.history_by, Records.new_record, Records.record_at, Records.state_after}
 use Rattle.rls_check.specs.rls_audit.specs.rls_core.specs.Events.Event.{Begins, Posts, Commits, RollsBack}
 use Rattle.rls_check.specs.rls_audit.specs.Showing.{AreTexts, ArePoliciesSpellable, IsPolicySpellable, IsSpellable}

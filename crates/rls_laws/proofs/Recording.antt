@@ -5,10 +5,10 @@ use Rattle.std.specs.List.{All, AllByRecursion}
 use Rattle.std.proofs.Common.{subst}
 use Rattle.std.proofs.lemmas.List.Elements.{All-from_recursion}
 use Rattle.std.proofs.lemmas.Option.{same_Some}
-use Rattle.rls_check.specs.rls_meaning.specs.rls_guard.specs.rls_catalog.specs.{State.State, declared.change.Change.Change}
+use Rattle.rls_check.specs.rls_meaning.specs.rls_access.specs.rls_guard.specs.rls_catalog.specs.{State.State, declared.change.Change.Change}
 use Rattle.rls_statement.specs.declared.statement.Statement.{Statement}
-use Rattle.rls_check.specs.rls_meaning.specs.rls_guard.specs.{Effects.changes_of}
-use Rattle.rls_check.specs.rls_access.specs.{Statements.effect_in, Transactions.Begin, Transactions.first_ctx, Transactions.may_begin}
+use Rattle.rls_check.specs.rls_meaning.specs.rls_access.specs.rls_guard.specs.{Effects.changes_of}
+use Rattle.rls_check.specs.rls_audit.specs.rls_core.specs.rls_access.specs.{Statements.effect_in, Transactions.Begin, Transactions.first_ctx, Transactions.may_begin}
 use Rattle.rls_check.specs.rls_audit.specs.rls_core.specs.{Events.Event, Events.Rules, Events.Running, Events.World, Events.after, Events.begin, Events.commit, Events.happens, Events.is_taken, Events.post, Events.posted_in, Events.run, Events.seen_by, Events.with_running, Records.Record, Records.history_by, Records.new_record, Records.record_at, Records.state_after}
 use Rattle.rls_check.specs.rls_audit.specs.rls_core.specs.Events.Event.{Begins, Posts, Commits, RollsBack}
 use Rattle.rls_check.specs.rls_audit.specs.Showing.{CanShow, IsSpellable}

@@ -7,15 +7,15 @@ use Rattle.rls_value.specs.{declared.object.Object.Object, declared.row.RowId.Ro
 use Rattle.rls_value.specs.declared.object.Object.TheVariants as o
 use Rattle.rls_value.specs.declared.verb.Kind.TheVariants as k
 use Rattle.rls_expr.specs.{Terms.Term, Terms.maybe_term}
-use Rattle.rls_check.specs.rls_meaning.specs.rls_guard.specs.rls_catalog.specs.{declared.stored.Stored.Stored, declared.verdict.Side.Side, Membership.Within, State.State}
-use Rattle.rls_check.specs.rls_meaning.specs.rls_guard.specs.rls_catalog.specs.declared.verdict.Side.TheVariants as side
-use Rattle.rls_check.specs.rls_meaning.specs.rls_guard.specs.rls_source.specs.{Asked.asked_key, Askings.asked_if, Askings.followed_by, Askings.known}
-use Rattle.rls_check.specs.rls_meaning.specs.rls_guard.specs.rls_evaluation.specs.{Environments.Environment, Environments.over, Eval.meets, Eval.value_of, Showing.shows, Showing.verdict_on}
-use Rattle.rls_check.specs.rls_meaning.specs.rls_guard.specs.{declared.quals.RowCheck.RowCheck}
+use Rattle.rls_check.specs.rls_meaning.specs.rls_access.specs.rls_guard.specs.rls_catalog.specs.{declared.stored.Stored.Stored, declared.verdict.Side.Side, Membership.Within, State.State}
+use Rattle.rls_check.specs.rls_meaning.specs.rls_access.specs.rls_guard.specs.rls_catalog.specs.declared.verdict.Side.TheVariants as side
+use Rattle.rls_check.specs.rls_meaning.specs.rls_access.specs.rls_guard.specs.rls_source.specs.{Asked.asked_key, Askings.asked_if, Askings.followed_by, Askings.known}
+use Rattle.rls_check.specs.rls_meaning.specs.rls_access.specs.rls_guard.specs.rls_evaluation.specs.{Environments.Environment, Environments.over, Eval.meets, Eval.value_of, Showing.shows, Showing.verdict_on}
+use Rattle.rls_check.specs.rls_meaning.specs.rls_access.specs.rls_guard.specs.{declared.quals.RowCheck.RowCheck}
 use Rattle.rls_check.specs.rls_meaning.specs.rls_depth.specs.rls_expansion.specs.{declared.expansion.PolicyExpansion.PolicyExpansion, Expanding.judges_new, Expanding.judges_old, Used.all_tables, Used.tables_if, Used.tables_of}
 use Rattle.rls_check.specs.rls_meaning.specs.rls_depth.specs.Deep.{JudgeAlike}
 use Rattle.rls_check.specs.rls_meaning.specs.rls_depth.proofs.Tables.{within_first, within_last}
-use Rattle.rls_check.specs.rls_access.specs.rls_judging.specs.{ScannedRows.scanned_rows_with, Judging.are_allowed, Judging.decision_by, Judging.decisions_of, Judging.decisions_on, Judging.judged_all, Judging.judged_new, Judging.judged_old, Judging.qualifies_if, Judging.qualifying_rows_of, Judging.with_decision, Judging.with_decisions, Judging.with_judged, Valuing.values_on, Valuing.with_value}
+use Rattle.rls_check.specs.rls_audit.specs.rls_core.specs.rls_access.specs.rls_judging.specs.{ScannedRows.scanned_rows_with, Judging.are_allowed, Judging.decision_by, Judging.decisions_of, Judging.decisions_on, Judging.judged_all, Judging.judged_new, Judging.judged_old, Judging.qualifies_if, Judging.qualifying_rows_of, Judging.with_decision, Judging.with_decisions, Judging.with_judged, Valuing.values_on, Valuing.with_value}
 use Rattle.rls_check.specs.rls_meaning.specs.{Commands.depth_of, Commands.query_tables, Commands.reads, Expanding.IsExpansionIn, Expanding.check, Expanding.checks, Expanding.checks_if, Expanding.sees}
 use Rattle.rls_check.specs.rls_meaning.proofs.Listing.{flat_append}
 use Rattle.rls_check.specs.rls_meaning.proofs.Qualifying.{decisions_same}

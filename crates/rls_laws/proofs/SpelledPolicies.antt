@@ -9,7 +9,7 @@ use Rattle.rls_value.specs.declared.verb.PolicyKind.{PolicyKind}
 use Rattle.rls_value.specs.declared.verb.PolicyKind.TheVariants as kind
 use Rattle.rls_value.specs.declared.verb.Kind.TheVariants as k
 use Rattle.rls_expr.specs.{Terms.Term, declared.policy.Grantee.Grantee, declared.policy.Policy.Policy}
-use Rattle.rls_check.specs.rls_meaning.specs.rls_guard.specs.rls_catalog.specs.PolicyLists.{InNameOrder, is_after, is_named, with_policy, with_replaced, without_policy}
+use Rattle.rls_check.specs.rls_meaning.specs.rls_access.specs.rls_guard.specs.rls_catalog.specs.PolicyLists.{InNameOrder, is_after, is_named, with_policy, with_replaced, without_policy}
 use Rattle.rls_statement.specs.{declared.statement.AlterPolicy.AlterPolicy, declared.statement.CreatePolicy.CreatePolicy}
 use Rattle.rls_statement.specs.declared.statement.Statement.TheVariants as st
 use Rattle.rls_check.specs.rls_meaning.specs.rls_ddl.specs.AlteringPolicies.{altered, has_no_place_for, with_altered}

@@ -1,12 +1,12 @@
 -- Each statement reads what it may read.
 use Rattle.std.specs.List.{All, AllByRecursion}
 use Rattle.std.proofs.lemmas.List.Elements.{All-from_recursion}
-use Rattle.rls_check.specs.rls_meaning.specs.rls_guard.specs.rls_catalog.specs.State.{State}
-use Rattle.rls_check.specs.rls_meaning.specs.rls_guard.specs.rls_source.specs.{Askings.known, Footprints.footprint_of}
+use Rattle.rls_check.specs.rls_meaning.specs.rls_access.specs.rls_guard.specs.rls_catalog.specs.State.{State}
+use Rattle.rls_check.specs.rls_meaning.specs.rls_access.specs.rls_guard.specs.rls_source.specs.{Askings.known, Footprints.footprint_of}
 use Rattle.rls_statement.specs.{declared.statement.Statement.Statement, Tags.tag_of}
 use Rattle.rls_statement.specs.declared.statement.Statement.TheVariants as statement
-use Rattle.rls_check.specs.rls_meaning.specs.rls_guard.specs.declared.context.Ctx.{Ctx}
-use Rattle.rls_check.specs.rls_access.specs.Statements.{done_by, mode_or_refused, step}
+use Rattle.rls_check.specs.rls_meaning.specs.rls_access.specs.rls_guard.specs.declared.context.Ctx.{Ctx}
+use Rattle.rls_check.specs.rls_audit.specs.rls_core.specs.rls_access.specs.Statements.{done_by, mode_or_refused, step}
 use Rattle.rls_laws.specs.Reads.{MayRead}
 use Rattle.rls_laws.proofs.{MembershipReads.grant_roles_reads, MembershipReads.revoke_roles_reads, CommandReads.AreExpanded, CommandReads.delete_reads, CommandReads.insert_reads, CommandReads.select_reads, CommandReads.update_reads, DefinitionReads.alter_policy_reads, DefinitionReads.alter_role_reads, DefinitionReads.alter_table_reads, DefinitionReads.create_policy_reads, DefinitionReads.create_role_reads, DefinitionReads.create_table_reads, DefinitionReads.drop_policy_reads, DefinitionReads.grant_reads, DefinitionReads.revoke_reads, DefinitionReads.set_role_reads, ReadLists.each_footprint, ReadLists.each_then}
 

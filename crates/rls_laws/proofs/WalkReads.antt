@@ -3,10 +3,10 @@ use Rattle.std.specs.Prelude.{◌≡◌, refl, ℕ, List, [], ◌∷◌, Bool, t
 use Rattle.std.specs.List.{AllByRecursion}
 use Rattle.rls_value.specs.{declared.object.Object.Object, Names.one_of}
 use Rattle.rls_value.specs.declared.object.Object.TheVariants as o
-use Rattle.rls_check.specs.rls_meaning.specs.rls_guard.specs.rls_catalog.specs.{Membership.attributes_of, Membership.effective_roles_reads, Membership.reached_of, Membership.walk_reads, Paths.can_set_reads, Paths.has_set, Paths.reached_where, State.State}
-use Rattle.rls_check.specs.rls_meaning.specs.rls_guard.specs.rls_catalog.proofs.{Inheriting.reached_inherits, Reaching.inherits_is, Reaching.reached_where_reaches}
+use Rattle.rls_check.specs.rls_meaning.specs.rls_access.specs.rls_guard.specs.rls_catalog.specs.{Membership.attributes_of, Membership.effective_roles_reads, Membership.reached_of, Membership.walk_reads, Paths.can_set_reads, Paths.has_set, Paths.reached_where, State.State}
+use Rattle.rls_check.specs.rls_meaning.specs.rls_access.specs.rls_guard.specs.rls_catalog.proofs.{Inheriting.reached_inherits, Reaching.inherits_is, Reaching.reached_where_reaches}
 use Rattle.rls_recursion.proofs.Closing.{one_first, one_further}
-use Rattle.rls_check.specs.rls_meaning.specs.rls_guard.specs.RolePrivileges.{role_privileges_reads}
+use Rattle.rls_check.specs.rls_meaning.specs.rls_access.specs.rls_guard.specs.RolePrivileges.{role_privileges_reads}
 use Rattle.rls_laws.specs.Walks.{Walks, Begins, Follows, Visits}
 
 -- of each of these names

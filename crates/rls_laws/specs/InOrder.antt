@@ -2,9 +2,9 @@
 use Rattle.std.specs.Prelude.{◌≡◌, ℕ, List, Some}
 use Rattle.std.specs.List.{All}
 use Rattle.std.specs.List.Sorted.{IsStrictlySortedBy}
-use Rattle.rls_check.specs.rls_meaning.specs.rls_guard.specs.rls_catalog.specs.{declared.change.Change.Change, declared.grant.Grant.Grant, declared.role.Membership.Membership, PolicyLists.InNameOrder, State.State, State.name_order, State.grants_of, State.members_of, State.policies_of}
-use Rattle.rls_check.specs.rls_meaning.specs.rls_guard.specs.rls_catalog.specs.declared.change.Change.TheVariants as c
-use Rattle.rls_check.specs.rls_meaning.specs.rls_guard.specs.rls_grant.specs.Granting.{grant_order}
+use Rattle.rls_check.specs.rls_meaning.specs.rls_access.specs.rls_guard.specs.rls_catalog.specs.{declared.change.Change.Change, declared.grant.Grant.Grant, declared.role.Membership.Membership, PolicyLists.InNameOrder, State.State, State.name_order, State.grants_of, State.members_of, State.policies_of}
+use Rattle.rls_check.specs.rls_meaning.specs.rls_access.specs.rls_guard.specs.rls_catalog.specs.declared.change.Change.TheVariants as c
+use Rattle.rls_check.specs.rls_meaning.specs.rls_access.specs.rls_guard.specs.rls_grant.specs.Granting.{grant_order}
 use Rattle.rls_check.specs.rls_audit.specs.rls_core.specs.{Events.Running, Events.World, Events.seen_by, Records.record_at, Records.state_after}
 
 -- grants ascend by privilege (SELECT, INSERT, UPDATE, DELETE), then by grantee, PUBLIC before each role, then by grantor; so

@@ -6,15 +6,15 @@ use Rattle.std.specs.Option.{option_to_list}
 use Rattle.rls_value.specs.{declared.object.Object.Object, declared.refusal.Refusal.Refusal, declared.value.Value.Value, Giving.and_then, Names.one_of}
 use Rattle.rls_value.specs.declared.object.Object.TheVariants as o
 use Rattle.rls_expr.specs.{declared.policy.Grantee.Grantee, declared.policy.Grantee.TheVariants.Public, declared.policy.Grantee.TheVariants.Role, declared.table.TableDef.TableDef, Terms.Query, Terms.Term}
-use Rattle.rls_check.specs.rls_meaning.specs.rls_guard.specs.rls_catalog.specs.{declared.role.Membership.Membership, declared.stored.Stored.Stored, Membership.attributes_of, Membership.visit_reads, Paths.has_set, State.State, State.table_of, Verdict.is_exempt}
-use Rattle.rls_check.specs.rls_meaning.specs.rls_guard.specs.rls_source.specs.{Sequences.each_of}
+use Rattle.rls_check.specs.rls_meaning.specs.rls_access.specs.rls_guard.specs.rls_catalog.specs.{declared.role.Membership.Membership, declared.stored.Stored.Stored, Membership.attributes_of, Membership.visit_reads, Paths.has_set, State.State, State.table_of, Verdict.is_exempt}
+use Rattle.rls_check.specs.rls_meaning.specs.rls_access.specs.rls_guard.specs.rls_source.specs.{Sequences.each_of}
 use Rattle.rls_statement.specs.{declared.changing.Delete.Delete, declared.changing.Update.Update, declared.statement.GrantRoles.GrantRoles, declared.statement.Insert.Insert, declared.statement.Select.Select, declared.statement.Statement.Statement}
 use Rattle.rls_statement.specs.declared.statement.SetRole.TheVariants as set
 use Rattle.rls_statement.specs.declared.statement.Statement.TheVariants as statement
-use Rattle.rls_check.specs.rls_meaning.specs.rls_guard.specs.declared.context.Ctx.{Ctx}
-use Rattle.rls_check.specs.rls_meaning.specs.rls_guard.specs.rls_evaluation.specs.Environments.{Environment}
-use Rattle.rls_check.specs.rls_access.specs.rls_dml.specs.{declared.analysed_insert.AnalysedInsert.AnalysedInsert, declared.analysed_update.AnalysedUpdate.AnalysedUpdate, declared.deleting.AnalysedDelete.AnalysedDelete, declared.selecting.AnalysedSelect.AnalysedSelect, Inserting.numbered, Writing.keys_of}
-use Rattle.rls_check.specs.rls_access.specs.rls_judging.specs.ScannedRows.{pinned_key}
+use Rattle.rls_check.specs.rls_meaning.specs.rls_access.specs.rls_guard.specs.declared.context.Ctx.{Ctx}
+use Rattle.rls_check.specs.rls_meaning.specs.rls_access.specs.rls_guard.specs.rls_evaluation.specs.Environments.{Environment}
+use Rattle.rls_check.specs.rls_audit.specs.rls_core.specs.rls_access.specs.rls_dml.specs.{declared.analysed_insert.AnalysedInsert.AnalysedInsert, declared.analysed_update.AnalysedUpdate.AnalysedUpdate, declared.deleting.AnalysedDelete.AnalysedDelete, declared.selecting.AnalysedSelect.AnalysedSelect, Inserting.numbered, Writing.keys_of}
+use Rattle.rls_check.specs.rls_audit.specs.rls_core.specs.rls_access.specs.rls_judging.specs.ScannedRows.{pinned_key}
 use Rattle.rls_check.specs.rls_meaning.specs.{Analysing.items_of, Commands.Command, Commands.required, Deleting.delete_parts, Inserting.insert_parts, Inserting.row_of_tuple, Naming.table_in, Parts.tables_of, Policies.conditions, Rows.qualifying, Selecting.select_parts, Updating.new_version, Updating.set_and_where, Updating.update_parts}
 use Rattle.rls_check.specs.rls_meaning.specs.{Deleting.delete_command, Inserting.insert_command, Selecting.select_command, Updating.update_command}
 use Rattle.rls_laws.specs.{Subqueries.Asks, Subqueries.LeadsTo, Subqueries.query_reads, Subqueries.rows_read, Walks.Climbs, Walks.Walks}

@@ -1,7 +1,7 @@
 -- What texts spell of a state and of a record.
 use Rattle.std.specs.Prelude.{ℕ, List}
 use Rattle.std.specs.List.{All}
-use Rattle.rls_check.specs.rls_meaning.specs.rls_guard.specs.rls_catalog.specs.State.{State, policies_of}
+use Rattle.rls_check.specs.rls_meaning.specs.rls_access.specs.rls_guard.specs.rls_catalog.specs.State.{State, policies_of}
 use Rattle.rls_check.specs.rls_audit.specs.rls_core.specs.{Events.Event, Records.Record}
 use Rattle.rls_check.specs.rls_audit.specs.rls_core.specs.Events.Event.{Posts}
 use Rattle.rls_check.specs.rls_audit.specs.Showing.{IsPolicySpellable, IsSpellable}

@@ -8,9 +8,9 @@ use Rattle.rls_value.specs.declared.object.Object.TheVariants as o
 use Rattle.rls_value.specs.declared.verb.Kind.TheVariants as k
 use Rattle.rls_expr.specs.{Scopes.InScope}
 use Rattle.rls_expr.specs.Terms.{Term, Terms, Query, Compare, And, Or, Not, IsNull, IsNotNull, InList, NotInList, Exists, InSubquery, NotInSubquery, Scalar, Sum, End, More, Select}
-use Rattle.rls_check.specs.rls_meaning.specs.rls_guard.specs.rls_catalog.specs.{declared.verdict.Side.Side, State.State, State.table_of, Verdict.applying_of, Verdict.expression_of, Verdict.is_exempt}
-use Rattle.rls_check.specs.rls_meaning.specs.rls_guard.specs.rls_catalog.specs.declared.verdict.Side.TheVariants as side
-use Rattle.rls_check.specs.rls_meaning.specs.rls_guard.specs.rls_evaluation.specs.{Environments.Environment, Keys.key_of}
+use Rattle.rls_check.specs.rls_meaning.specs.rls_access.specs.rls_guard.specs.rls_catalog.specs.{declared.verdict.Side.Side, State.State, State.table_of, Verdict.applying_of, Verdict.expression_of, Verdict.is_exempt}
+use Rattle.rls_check.specs.rls_meaning.specs.rls_access.specs.rls_guard.specs.rls_catalog.specs.declared.verdict.Side.TheVariants as side
+use Rattle.rls_check.specs.rls_meaning.specs.rls_access.specs.rls_guard.specs.rls_evaluation.specs.{Environments.Environment, Keys.key_of}
 use Rattle.rls_check.specs.rls_meaning.specs.{Chains.subquery_tables_in, Commands.Command, Commands.own_of, Commands.query_tables, Resolving.resolved, Rows.kinds_of}
 
 -- ---- tables

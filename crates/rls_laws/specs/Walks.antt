@@ -3,7 +3,7 @@
 use Rattle.std.specs.Prelude.{Bool, ◌≡◌, ℕ, List, true, false}
 use Rattle.rls_value.specs.{declared.object.Object.Object, Names.one_of}
 use Rattle.rls_value.specs.declared.object.Object.TheVariants as o
-use Rattle.rls_check.specs.rls_meaning.specs.rls_guard.specs.rls_catalog.specs.{declared.role.Membership.Membership, Membership.attributes_of, Paths.Reaches, Paths.granted_where, Paths.held_by, Paths.is_any, State.State}
+use Rattle.rls_check.specs.rls_meaning.specs.rls_access.specs.rls_guard.specs.rls_catalog.specs.{declared.role.Membership.Membership, Membership.attributes_of, Paths.Reaches, Paths.granted_where, Paths.held_by, Paths.is_any, State.State}
 use Rattle.rls_statement.specs.declared.statement.GrantRoles.{GrantRoles}
 
 -- a walk from a role over the memberships that pass the test: who the role is and, unless it is a superuser, each role that it

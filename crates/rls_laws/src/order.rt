@@ -1,10 +1,10 @@
 //! What a state lists is in order, in every state that transactions lead to.
 
 ghost use Rattle.std.specs.Prelude.{List};
-ghost use Rattle.rls_check.specs.rls_meaning.specs.rls_guard.specs.rls_catalog.specs.{Changed.changed_all, Changed.opening, State.State};
+ghost use Rattle.rls_check.specs.rls_meaning.specs.rls_access.specs.rls_guard.specs.rls_catalog.specs.{Changed.changed_all, Changed.opening, State.State};
 ghost use Rattle.rls_statement.specs.declared.statement.Statement.{Statement};
-ghost use Rattle.rls_check.specs.rls_meaning.specs.rls_guard.specs.{declared.context.Ctx.Ctx, Effects.changes_of};
-ghost use Rattle.rls_check.specs.rls_access.specs.Statements.{effect_in};
+ghost use Rattle.rls_check.specs.rls_meaning.specs.rls_access.specs.rls_guard.specs.{declared.context.Ctx.Ctx, Effects.changes_of};
+ghost use Rattle.rls_check.specs.rls_audit.specs.rls_core.specs.rls_access.specs.Statements.{effect_in};
 ghost use Rattle.rls_check.specs.rls_audit.specs.rls_core.specs.Events.{Event, Rules, after};
 ghost use Rattle.rls_laws.specs.InOrder.{IsInOrder, ListsAreInOrder};
 

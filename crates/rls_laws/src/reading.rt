@@ -1,11 +1,11 @@
 //! What a statement may read.
 
 ghost use Rattle.std.specs.List.{All};
-ghost use Rattle.rls_check.specs.rls_meaning.specs.rls_guard.specs.rls_catalog.specs.State.{State};
-ghost use Rattle.rls_check.specs.rls_meaning.specs.rls_guard.specs.rls_source.specs.Footprints.{footprint_of};
+ghost use Rattle.rls_check.specs.rls_meaning.specs.rls_access.specs.rls_guard.specs.rls_catalog.specs.State.{State};
+ghost use Rattle.rls_check.specs.rls_meaning.specs.rls_access.specs.rls_guard.specs.rls_source.specs.Footprints.{footprint_of};
 ghost use Rattle.rls_statement.specs.declared.statement.Statement.{Statement};
-ghost use Rattle.rls_check.specs.rls_meaning.specs.rls_guard.specs.declared.context.Ctx.{Ctx};
-ghost use Rattle.rls_check.specs.rls_access.specs.Statements.{step};
+ghost use Rattle.rls_check.specs.rls_meaning.specs.rls_access.specs.rls_guard.specs.declared.context.Ctx.{Ctx};
+ghost use Rattle.rls_check.specs.rls_audit.specs.rls_core.specs.rls_access.specs.Statements.{step};
 ghost use Rattle.rls_laws.specs.Reads.{MayRead};
 
 use rls_check::rls_meaning::expansion_means;

@@ -3,11 +3,11 @@
 ghost use Rattle.std.specs.Prelude.{◌≡◌, List};
 ghost use Rattle.std.specs.List.{All};
 ghost use Rattle.rls_value.specs.declared.refusal.Refusal.{Refusal};
-ghost use Rattle.rls_check.specs.rls_meaning.specs.rls_guard.specs.rls_catalog.specs.State.{State};
+ghost use Rattle.rls_check.specs.rls_meaning.specs.rls_access.specs.rls_guard.specs.rls_catalog.specs.State.{State};
 ghost use Rattle.rls_statement.specs.declared.statement.Statement.{Statement};
-ghost use Rattle.rls_check.specs.rls_meaning.specs.rls_guard.specs.{declared.context.Ctx.Ctx, declared.reply.Decision.Decision};
-ghost use Rattle.rls_check.specs.rls_meaning.specs.rls_guard.specs.declared.effect.Effect.TheVariants as effect;
-ghost use Rattle.rls_check.specs.rls_access.specs.Statements.{effect_in};
+ghost use Rattle.rls_check.specs.rls_meaning.specs.rls_access.specs.rls_guard.specs.{declared.context.Ctx.Ctx, declared.reply.Decision.Decision};
+ghost use Rattle.rls_check.specs.rls_meaning.specs.rls_access.specs.rls_guard.specs.declared.effect.Effect.TheVariants as effect;
+ghost use Rattle.rls_check.specs.rls_audit.specs.rls_core.specs.rls_access.specs.Statements.{effect_in};
 ghost use Rattle.rls_check.specs.rls_audit.specs.rls_core.specs.Events.{Event, Rules, after};
 ghost use Rattle.rls_check.specs.rls_audit.specs.{Audits.AuditHolds, Lines.Line, RefusalCodecs.IsAudited, Showing.CanShow};
 ghost use Rattle.rls_laws.specs.Shown.{KeysAreThere};

@@ -3,12 +3,12 @@
 ghost use Rattle.std.specs.Prelude.{◌≡◌, List, false};
 ghost use Rattle.std.specs.List.{All};
 ghost use Rattle.rls_expr.specs.declared.policy.Policy.{Policy};
-ghost use Rattle.rls_check.specs.rls_meaning.specs.rls_guard.specs.rls_catalog.specs.State.{State};
+ghost use Rattle.rls_check.specs.rls_meaning.specs.rls_access.specs.rls_guard.specs.rls_catalog.specs.State.{State};
 ghost use Rattle.rls_statement.specs.declared.statement.{AlterPolicy.AlterPolicy, Statement.Statement};
 ghost use Rattle.rls_statement.specs.declared.statement.Statement.TheVariants as statement;
-ghost use Rattle.rls_check.specs.rls_meaning.specs.rls_guard.specs.{declared.context.Ctx.Ctx, Effects.changes_of};
+ghost use Rattle.rls_check.specs.rls_meaning.specs.rls_access.specs.rls_guard.specs.{declared.context.Ctx.Ctx, Effects.changes_of};
 ghost use Rattle.rls_check.specs.rls_meaning.specs.rls_ddl.specs.AlteringPolicies.{altered, has_no_place_for};
-ghost use Rattle.rls_check.specs.rls_access.specs.Statements.{effect_in};
+ghost use Rattle.rls_check.specs.rls_audit.specs.rls_core.specs.rls_access.specs.Statements.{effect_in};
 ghost use Rattle.rls_check.specs.rls_audit.specs.rls_core.specs.{Events.Event, Events.Rules, Events.World, Events.after, Headline.AreExplained, Headline.HaveOrder};
 ghost use Rattle.rls_check.specs.rls_audit.specs.Showing.{AreTexts, ArePoliciesSpellable, IsPolicySpellable, IsSpellable};
 ghost use Rattle.rls_laws.specs.{InOrder.IsInOrder, Spelled.PoliciesAreTexts, Spelled.PostsText, Spelled.StatementsAreTexts};

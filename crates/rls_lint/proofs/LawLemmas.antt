@@ -13,7 +13,7 @@ use Rattle.rls_expr.specs.Terms.{Term, Literal, Column, Var, CurrentUser, Compar
 use Rattle.rls_catalog.specs.{declared.verdict.Side.Side, declared.verdict.Verdict.Verdict, Membership.attributes_of, Membership.has_privileges_of, Privileges.holds, State.State, State.table_of, Verdict.applying_of, Verdict.check_or_using, Verdict.expression_of, Verdict.is_exempt, Verdict.is_such, Verdict.least, Verdict.lesser, Verdict.names_where, Verdict.verdict_by, Verdict.verdict_of}
 use Rattle.rls_catalog.specs.declared.verdict.Side.TheVariants as side
 use Rattle.rls_catalog.specs.declared.verdict.Verdict.TheVariants as v
-use Rattle.rls_meaning.specs.rls_guard.specs.rls_evaluation.specs.{Environments.over, Showing.allows}
+use Rattle.rls_meaning.specs.rls_access.specs.rls_guard.specs.rls_evaluation.specs.{Environments.over, Showing.allows}
 use Rattle.rls_meaning.specs.rls_depth.specs.rls_expansion.specs.Expanding.{judges_new}
 use Rattle.rls_meaning.specs.{Commands.closing_in, Commands.permitted, Commands.permitted_in, Commands.privilege_of, Commands.required, Evaluating.Shown, Evaluating.value as value_of_term, Resolving.resolved, Showing.allowed_rows, Showing.rows_at_key, Showing.shows, Showing.truths_in, Showing.verdict_in}
 use Rattle.rls_lint.specs.{Commands.has_permissive, Commands.has_policies, Commands.is_denied, Commands.is_denying, Commands.side_of, Lookups.is_blind, Loops.closed_for, Loops.command_of, PolicyMistakes.has_true_check, PolicyMistakes.is_true_literal, TableMistakes.is_unbound, Users.is_bound, Users.is_login}

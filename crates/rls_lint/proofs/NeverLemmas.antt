@@ -12,7 +12,7 @@ use Rattle.rls_expr.specs.declared.expr.Comparison.TheVariants as c
 use Rattle.rls_expr.specs.Scopes.{InScope}
 use Rattle.rls_expr.specs.Terms.{Term, Terms, Query, Literal, Column, Var, CurrentUser, Compare, And, Or, Not, IsNull, IsNotNull, InList, NotInList, Exists, InSubquery, NotInSubquery, Scalar, Sum, End, More, Select}
 use Rattle.rls_catalog.specs.State.{State}
-use Rattle.rls_meaning.specs.rls_guard.specs.rls_evaluation.specs.Environments.{Environment, compared}
+use Rattle.rls_meaning.specs.rls_access.specs.rls_guard.specs.rls_evaluation.specs.Environments.{Environment, compared}
 use Rattle.rls_meaning.specs.{Evaluating.Shown, Evaluating.value, Resolving.resolved}
 use Rattle.rls_lint.specs.Nulls.{IsNever, is_null_literal, null_here, nulls_all, nulls_of, query_nulls}
 

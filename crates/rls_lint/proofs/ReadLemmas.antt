@@ -12,7 +12,7 @@ use Rattle.rls_value.specs.declared.verb.Privilege.TheVariants as p
 use Rattle.rls_expr.specs.{declared.columns.SelectedTable.SelectedTable, declared.policy.Policy.Policy, Scopes.InScope, Selecting.selected_of, Terms.Term}
 use Rattle.rls_catalog.specs.{Privileges.holds, Privileges.missing, State.State, State.policies_of, Verdict.expression_of, Verdict.is_exempt, Verdict.is_for_kind, Verdict.is_to}
 use Rattle.rls_catalog.specs.declared.verdict.Side.TheVariants as side
-use Rattle.rls_meaning.specs.rls_guard.specs.{declared.permission_check.PermissionCheck.PermissionCheck, RolePrivileges.refused_for}
+use Rattle.rls_meaning.specs.rls_access.specs.rls_guard.specs.{declared.permission_check.PermissionCheck.PermissionCheck, RolePrivileges.refused_for}
 use Rattle.rls_meaning.specs.{Chains.selected_in, Chains.selected_tables_in, Commands.Command, Commands.closing_in, Commands.depth_of, Commands.needed_in, Commands.own_selected_of, Commands.permitted, Commands.permitted_in, Commands.privilege_of, Commands.reads, Commands.required, Commands.selected_for as asked_for, Needing.needed_by}
 use Rattle.rls_lint.specs.declared.finding.Lookup.TheVariants as l
 use Rattle.rls_lint.specs.Lookups.{is_misled, is_wrong_reading, reading_of, readings_for, selected_by, selected_for}

@@ -7,5 +7,4 @@ pub mod Nulls
 pub mod TableMistakes
 pub mod Findings
 pub mod Naming
-pub mod Escaped
 pub mod Texts

@@ -8,7 +8,7 @@ use Rattle.rls_value.specs.declared.verb.Kind.TheVariants as k
 use Rattle.rls_expr.specs.{declared.columns.SelectedTable.SelectedTable, declared.policy.Policy.Policy, Resolving.resolved, Scopes.InScope, Selecting.selected_of, Terms.Term}
 use Rattle.rls_catalog.specs.{Privileges.holds, Privileges.missing, State.State, State.policies_of, Verdict.applying_of, Verdict.expression_of, Verdict.is_for_kind, Verdict.is_to}
 use Rattle.rls_catalog.specs.declared.verdict.Side.TheVariants as side
-use Rattle.rls_meaning.specs.rls_guard.specs.Naming.{names_over}
+use Rattle.rls_meaning.specs.rls_access.specs.rls_guard.specs.Naming.{names_over}
 use Rattle.rls_meaning.specs.Commands.{privilege_of}
 use Rattle.rls_lint.specs.declared.finding.Lookup.{Lookup}
 use Rattle.rls_lint.specs.declared.finding.Lookup.TheVariants as l

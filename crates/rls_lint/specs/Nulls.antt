@@ -6,7 +6,7 @@ use Rattle.rls_value.specs.declared.value.Value.TheVariants as v
 use Rattle.rls_expr.specs.{declared.policy.Policy.Policy, Scopes.InScope}
 use Rattle.rls_expr.specs.Terms.{Term, Terms, Query, Literal, Column, Var, CurrentUser, Compare, And, Or, Not, IsNull, IsNotNull, InList, NotInList, Exists, InSubquery, NotInSubquery, Scalar, Sum, End, More, Select}
 use Rattle.rls_catalog.specs.State.{State}
-use Rattle.rls_meaning.specs.rls_guard.specs.rls_evaluation.specs.Environments.{Environment}
+use Rattle.rls_meaning.specs.rls_access.specs.rls_guard.specs.rls_evaluation.specs.Environments.{Environment}
 use Rattle.rls_meaning.specs.{Evaluating.Shown, Evaluating.value, Resolving.resolved}
 use Rattle.rls_printing.specs.{ExprForms.expr, Outputs.output_tokens_text}
 use Rattle.rls_lint.specs.declared.finding.Mistake.{Mistake}

@@ -6,7 +6,7 @@ use Rattle.rls_value.specs.declared.verb.Kind.TheVariants as k
 use Rattle.rls_lint.specs.declared.commands.Commands.{Commands}
 use Rattle.rls_lint.specs.declared.finding.{Finding.Finding, Lookup.Lookup, Mistake.Mistake}
 use Rattle.rls_lint.specs.declared.finding.Lookup.TheVariants as l
-use Rattle.rls_lint.specs.Escaped.{escaped_line}
+use Rattle.rls_printing.specs.Escaped.{escaped_line}
 use Rattle.rls_lint.specs.declared.finding.Mistake.TheVariants as m
 
 -- ---- lists

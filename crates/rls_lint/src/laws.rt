@@ -7,7 +7,7 @@ ghost use Rattle.rls_expr.specs.{declared.policy.Policy.Policy, declared.table.T
 ghost use Rattle.rls_catalog.specs.{State.State, State.policies_of, State.table_of, Verdict.applying_of, Verdict.is_exempt};
 ghost use Rattle.rls_catalog.specs.declared.verdict.Side.TheVariants as side;
 ghost use Rattle.rls_catalog.specs.declared.verdict.Verdict.TheVariants as verdict;
-ghost use Rattle.rls_meaning.specs.rls_guard.specs.rls_evaluation.specs.{Environments.Environment, Showing.allows};
+ghost use Rattle.rls_meaning.specs.rls_access.specs.rls_guard.specs.rls_evaluation.specs.{Environments.Environment, Showing.allows};
 ghost use Rattle.rls_meaning.specs.rls_depth.specs.rls_expansion.specs.Expanding.{judges_new};
 ghost use Rattle.rls_meaning.specs.{Commands.Command, Commands.permitted_in, Evaluating.Shown, Showing.shows, Showing.verdict_in};
 ghost use Rattle.rls_lint.specs.declared.finding.Lookup.TheVariants as lookup;

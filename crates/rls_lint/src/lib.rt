@@ -2,7 +2,6 @@
 #![tactic(auto)]
 
 mod commands;
-mod escaping;
 mod finding;
 mod laws;
 mod linted;

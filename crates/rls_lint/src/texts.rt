@@ -5,8 +5,8 @@ ghost use Rattle.std.specs.Fmt.{decimal};
 ghost use Rattle.rls_lint.specs.Texts as spec;
 
 use crate::commands::Commands;
-use crate::escaping::push_line;
 use crate::finding::{Finding, Lookup, Mistake};
+use rls_printing::push_escaped_line;
 use rls_value::{Name, Text};
 use std::alloc::{AllocError, Global};
 
@@ -17,7 +17,7 @@ impl Finding {
     {
         let text = self.text(alloc)?;
         let mut line = Vec::new(alloc);
-        push_line(&mut line, text.as_str())?;
+        push_escaped_line(&mut line, text.as_str())?;
         Ok(line)
     }
 

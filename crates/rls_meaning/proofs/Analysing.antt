@@ -11,10 +11,10 @@ use Rattle.rls_value.specs.declared.refusal.NameKind.TheVariants as kind
 use Rattle.rls_expr.specs.{declared.table.Column.Column, declared.table.TableDef.TableDef, Naming.Step, Naming.names_all, Scopes.InScope, Tables.category_of, Tables.column_named, Terms.Term, Terms.terms_of, Typing.type_of}
 use Rattle.rls_expr.specs.Resolving as resolving
 use Rattle.rls_catalog.specs.{Membership.Within, State.State}
-use Rattle.rls_guard.specs.rls_source.specs.{Named.found_or, Sequences.each_of}
+use Rattle.rls_access.specs.rls_guard.specs.rls_source.specs.{Named.found_or, Sequences.each_of}
 use Rattle.rls_statement.specs.{declared.changing.Assignment.Assignment, declared.changing.Delete.Delete, declared.changing.Update.Update, declared.statement.Insert.Insert, declared.statement.Select.Select, declared.statement.Selected.Selected}
 use Rattle.rls_statement.specs.declared.statement.Selected.TheVariants as selected
-use Rattle.rls_guard.specs.{declared.context.Ctx.Ctx, Checks.is_unsupported}
+use Rattle.rls_access.specs.rls_guard.specs.{declared.context.Ctx.Ctx, Checks.is_unsupported}
 use Rattle.rls_depth.proofs.{Resolving.over_known, Tables.within_first, Tables.within_last}
 use Rattle.rls_access.specs.rls_dml.specs.{declared.analysed_update.AnalysedUpdate.AnalysedUpdate, declared.deleting.AnalysedDelete.AnalysedDelete, declared.selecting.AnalysedSelect.AnalysedSelect}
 use Rattle.rls_access.specs.rls_dml.specs.{Checking.fitting_or_fault, Checking.found_or_undefined, Checking.goes_into_column, Checking.returning_fits, Checking.returning_names, Checking.returning_resolved, Checking.returning_unsupported, Checking.selection_fits, Checking.selection_names, Checking.selection_resolved, Checking.selection_unsupported, Checking.supported_or_refused, Checking.where_fits, Checking.where_names, Checking.where_unsupported}

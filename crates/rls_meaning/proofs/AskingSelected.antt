@@ -11,8 +11,8 @@ use Rattle.rls_value.specs.declared.verb.PolicyKind.TheVariants as pk
 use Rattle.rls_expr.specs.{declared.columns.SelectedTable.SelectedTable, declared.policy.Policy.Policy, Scopes.InScope, Terms.Term}
 use Rattle.rls_catalog.specs.{Membership.Within, Privileges.includes, State.State, State.policies_of, Verdict.check_or_using, Verdict.exempts, Verdict.expression_of, Verdict.is_for_kind}
 use Rattle.rls_catalog.specs.declared.verdict.Side.TheVariants as side
-use Rattle.rls_guard.specs.rls_source.specs.Sequences.{each_or_refused}
-use Rattle.rls_guard.specs.{declared.role_privileges.RolePrivileges.RolePrivileges, RolePrivileges.has_owner, RolePrivileges.role_privileges_in}
+use Rattle.rls_access.specs.rls_guard.specs.rls_source.specs.Sequences.{each_or_refused}
+use Rattle.rls_access.specs.rls_guard.specs.{declared.role_privileges.RolePrivileges.RolePrivileges, RolePrivileges.has_owner, RolePrivileges.role_privileges_in}
 use Rattle.rls_depth.specs.rls_expansion.specs.{Expanding.asks_of, Expanding.own_selected, Selected.selected_asked, Selected.selected_used, Selected.selected_where, Used.Ask, Used.is_for_check, Used.is_for_using, Used.tables_asked, Used.tables_where, Used.using_stands_in}
 use Rattle.rls_depth.specs.Deep.{policies_in}
 use Rattle.rls_depth.proofs.{Resolving.SameKnown, Tables.within_first, Tables.within_last}

@@ -6,9 +6,9 @@ use Rattle.rls_value.specs.{declared.refusal.Refusal.Refusal, declared.refusal.R
 use Rattle.rls_expr.specs.declared.table.Column.{Column}
 use Rattle.rls_catalog.specs.{declared.stored.Stored.Stored, declared.verdict.Verdict.Verdict, State.State, State.rows_with_key}
 use Rattle.rls_catalog.specs.declared.verdict.Verdict.TheVariants as verdict
-use Rattle.rls_guard.specs.rls_evaluation.specs.Showing.{allows}
-use Rattle.rls_guard.specs.rls_source.specs.{Asked.keyed_at, Sequences.each_or_refused}
-use Rattle.rls_guard.specs.declared.reply.Decision.{Decision}
+use Rattle.rls_access.specs.rls_guard.specs.rls_evaluation.specs.Showing.{allows}
+use Rattle.rls_access.specs.rls_guard.specs.rls_source.specs.{Asked.keyed_at, Sequences.each_or_refused}
+use Rattle.rls_access.specs.rls_guard.specs.declared.reply.Decision.{Decision}
 use Rattle.rls_access.specs.rls_dml.specs.Writing.{constraints_or_refused, first_denial, has_doubles, has_values, keys_of, keys_taken, rows_or_refused, stays_any, unique_or_refused, unless_denied, value_or_not_null, verdict_or_denied}
 use Rattle.rls_meaning.specs.{Constraints.allowed_in, Constraints.filled_in, Constraints.taken_in, Constraints.unique_in, Naming.provided}
 

@@ -12,11 +12,11 @@ use Rattle.rls_value.specs.declared.refusal.Why.TheVariants as why
 use Rattle.rls_expr.specs.{declared.policy.Grantee.Grantee, declared.policy.Policy.Policy, declared.table.Column.Column, declared.table.TableDef.TableDef, Naming.names_all, Resolving.Names, Resolving.resolved, Scopes.InScope, Tables.column_named, Terms.Term, Terms.terms_of, Typing.takes_boolean, Typing.type_of}
 use Rattle.rls_catalog.specs.{Membership.Within, State.State, State.grants_of, State.policies_of, State.role_of, State.table_of, Paths.can_set, PolicyLists.has_policy, PolicyLists.with_policy, PolicyLists.without_policy}
 use Rattle.rls_catalog.specs.declared.change.Change.TheVariants as change
-use Rattle.rls_guard.specs.rls_source.specs.{Asked.grants_at, Asked.policies_at, Asked.role_at, Asked.table_at, Askings.Asking, Askings.asked_if, Askings.known, Named.found_or, Sequences.each_of}
+use Rattle.rls_access.specs.rls_guard.specs.rls_source.specs.{Asked.grants_at, Asked.policies_at, Asked.role_at, Asked.table_at, Askings.Asking, Askings.asked_if, Askings.known, Named.found_or, Sequences.each_of}
 use Rattle.rls_statement.specs.{declared.statement.AlterPolicy.AlterPolicy, declared.statement.AlterRole.AlterRole, declared.statement.AlterTable.AlterTable, declared.statement.CreatePolicy.CreatePolicy, declared.statement.CreateRole.CreateRole, declared.statement.CreateTable.CreateTable, declared.statement.DropPolicy.DropPolicy, declared.statement.MarkedColumn.MarkedColumn, declared.statement.SetRole.SetRole}
 use Rattle.rls_statement.specs.declared.statement.SetRole.TheVariants as set
-use Rattle.rls_guard.specs.{declared.context.Ctx.Ctx, declared.effect.Effect.Effect, Checks.superuser_or_denied, Effects.writes, Naming.named, Naming.names_over, RolePrivileges.ownership, RolePrivileges.role_privileges_in, Support.is_unsupported}
-use Rattle.rls_guard.specs.rls_grant.specs.Granting.{own_grants}
+use Rattle.rls_access.specs.rls_guard.specs.{declared.context.Ctx.Ctx, declared.effect.Effect.Effect, Checks.superuser_or_denied, Effects.writes, Naming.named, Naming.names_over, RolePrivileges.ownership, RolePrivileges.role_privileges_in, Support.is_unsupported}
+use Rattle.rls_access.specs.rls_guard.specs.rls_grant.specs.Granting.{own_grants}
 use Rattle.rls_access.specs.rls_ddl.specs.{AlteringPolicies.alter_policy, AlteringPolicies.alteration_made, AlteringPolicies.alteration_of, AlteringPolicies.alteration_on, AlteringPolicies.alteration_over, AlteringPolicies.conditions_or_refused, AlteringPolicies.has_no_place_for, AlteringPolicies.resolved_or_unsupported, AlteringPolicies.roles_or_undefined, AlteringPolicies.with_altered, AlteringRoles.alter_role, AlteringRoles.role_altered, AlteringRoles.role_changed, AlteringTables.alter_table, AlteringTables.altered, Conditions.both_conditions, Conditions.condition_fits, Conditions.condition_names, Conditions.is_supported}
 use Rattle.rls_access.specs.rls_ddl.specs.{CreatingPolicies.create_policy, CreatingPolicies.new_or_duplicate, CreatingPolicies.room_for_policy, CreatingPolicies.policy_added, CreatingPolicies.policy_made, CreatingPolicies.policy_on, CreatingPolicies.policy_or_refused, CreatingRoles.create_role, CreatingRoles.role_made, CreatingTables.column_in, CreatingTables.create_table, CreatingTables.key_names, CreatingTables.key_or_undefined, CreatingTables.place_of, CreatingTables.table_made, CreatingTables.table_unless_taken, CreatingTables.table_with, DroppingPolicies.drop_on, DroppingPolicies.drop_policy, DroppingPolicies.policy_dropped, NamedPolicies.policy_or_undefined, SettingRoles.may_set, SettingRoles.role_set, SettingRoles.set_or_denied, SettingRoles.set_role, SettingRoles.sets}
 use Rattle.rls_depth.proofs.{Tables.within_first, Tables.within_last}

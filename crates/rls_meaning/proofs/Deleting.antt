@@ -8,8 +8,8 @@ use Rattle.rls_expr.specs.{declared.table.TableDef.TableDef}
 use Rattle.rls_catalog.specs.{State.State}
 use Rattle.rls_catalog.specs.declared.verdict.Side.TheVariants as side
 use Rattle.rls_statement.specs.{declared.changing.Delete.Delete}
-use Rattle.rls_guard.specs.{Effects.shown}
-use Rattle.rls_guard.specs.declared.effect.Effect.TheVariants as effect
+use Rattle.rls_access.specs.rls_guard.specs.{Effects.shown}
+use Rattle.rls_access.specs.rls_guard.specs.declared.effect.Effect.TheVariants as effect
 use Rattle.rls_depth.specs.rls_expansion.specs.{Used.tables_if}
 use Rattle.rls_access.specs.rls_dml.specs.{declared.deleting.AnalysedDelete.AnalysedDelete, Deleting.delete_as, Deleting.delete_from, Deleting.delete_with_quals, Deleting.delete_qualifying_rows, Deleting.deleted as machine_deleted, Deleting.analysed_delete_for, Deleting.analysed_delete_in, Deleting.analysed_delete_names, Deleting.delete_columns, Checking.where_selected}
 use Rattle.rls_access.specs.{Statements.mode_or_refused}

@@ -6,7 +6,7 @@ use Rattle.std.proofs.lemmas.{Bool.true≢false}
 use Rattle.rls_value.specs.{declared.refusal.Refusal.Refusal, Giving.and_then, Names.one_of}
 use Rattle.rls_catalog.specs.{State.State, Membership.fresh, Membership.Within}
 use Rattle.rls_catalog.proofs.Walks.{left_all, fresh_few}
-use Rattle.rls_guard.specs.{declared.role_privileges.RolePrivileges.RolePrivileges, RolePrivileges.role_privileges_in}
+use Rattle.rls_access.specs.rls_guard.specs.{declared.role_privileges.RolePrivileges.RolePrivileges, RolePrivileges.role_privileges_in}
 use Rattle.rls_recursion.specs.{declared.dependency.PolicyDependency.PolicyDependency, Searching.InOrder, Searching.or_next, Searching.first_closed, Searching.closes as dependency_closes, Searching.first_closing as dependency_closing, Searching.has_subquery_of, Searching.subquery_tables_of, Searching.tables_in}
 use Rattle.rls_recursion.proofs.Closing.{one_first, one_further, not_true}
 use Rattle.rls_depth.specs.rls_expansion.specs.{Enough.collect, Enough.collect_end, Enough.collect_step, Enough.visits, Leading.named, Dependencies.dependency_of, Dependencies.dependencies_of}

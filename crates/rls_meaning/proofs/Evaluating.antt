@@ -8,9 +8,9 @@ use Rattle.rls_value.specs.declared.value.Value.TheVariants.{Null, Bool as Flag}
 use Rattle.rls_expr.specs.declared.expr.Sign.{Sign}
 use Rattle.rls_expr.specs.Terms.{Term, Terms, Query, Literal, Column, Var, CurrentUser, Compare, And, Or, Not, IsNull, IsNotNull, InList, NotInList, Exists, InSubquery, NotInSubquery, Scalar, Sum, End, More, Select}
 use Rattle.rls_catalog.specs.State.{State}
-use Rattle.rls_guard.specs.rls_source.specs.Askings.{Asking, asked_if, followed_by, known}
-use Rattle.rls_guard.specs.rls_evaluation.specs.{Environments.Environment, Environments.compared, Environments.inside, Environments.joined, Environments.number_or_null, Gathering.gathered, Keys.key_of, Tableless.no_objects, Tableless.value_given, Tableless.value_in}
-use Rattle.rls_guard.specs.rls_evaluation.specs.Eval.{Shows, among_items, and_value, first_item, has_row, item_if, item_of, item_or, meets, or_equal, or_item, or_value, sum_from as machine_sum_from, sum_of, together, value_of}
+use Rattle.rls_access.specs.rls_guard.specs.rls_source.specs.Askings.{Asking, asked_if, followed_by, known}
+use Rattle.rls_access.specs.rls_guard.specs.rls_evaluation.specs.{Environments.Environment, Environments.compared, Environments.inside, Environments.joined, Environments.number_or_null, Gathering.gathered, Keys.key_of, Tableless.no_objects, Tableless.value_given, Tableless.value_in}
+use Rattle.rls_access.specs.rls_guard.specs.rls_evaluation.specs.Eval.{Shows, among_items, and_value, first_item, has_row, item_if, item_of, item_or, meets, or_equal, or_item, or_value, sum_from as machine_sum_from, sum_of, together, value_of}
 use Rattle.rls_meaning.specs.Evaluating.{Shown, any_equal, conjunction, disjunction, first_or_null, is_met, no_rows, selected, sum, sum_from, value, values}
 
 -- ---- what is shown

@@ -11,12 +11,12 @@ use Rattle.rls_value.specs.declared.verb.Kind.TheVariants as k
 use Rattle.rls_expr.specs.{declared.policy.Policy.Policy, declared.table.TableDef.TableDef, Scopes.InScope, Terms.Term}
 use Rattle.rls_catalog.specs.{declared.verdict.Side.Side, State.State, Membership.Within}
 use Rattle.rls_catalog.specs.declared.verdict.Side.TheVariants as side
-use Rattle.rls_guard.specs.{declared.quals.RowCheck.RowCheck, declared.role_privileges.RolePrivileges.RolePrivileges, SecurityQuals.quals_from, RolePrivileges.role_privileges_in}
+use Rattle.rls_access.specs.rls_guard.specs.{declared.quals.RowCheck.RowCheck, declared.role_privileges.RolePrivileges.RolePrivileges, SecurityQuals.quals_from, RolePrivileges.role_privileges_in}
 use Rattle.rls_recursion.specs.{declared.dependency.PolicyDependency.PolicyDependency, declared.searching.Reached.Reached, Searching.InOrder, Searching.ListsEach, Searching.Found, Searching.Fits, Searching.Loops, Searching.Deep, Searching.first_closed, Searching.first_closing as dependency_closing, Searching.or_next, Searching.ordered_by, Searching.searched, Searching.tables_in, Searching.told_by}
 use Rattle.rls_recursion.proofs.{Ending.IsTold}
 use Rattle.rls_depth.specs.rls_expansion.specs.{declared.expansion.PolicyExpansion.PolicyExpansion, Relations.known_in, Expanding.judges_new, Expanding.judges_old, Expanding.own_tables, Expanding.past_policies, Expanding.expanded_from, Expanding.expansion_by, Expanding.expansion_of, Expanding.permission_checks, Expanding.row_checks_if, Dependencies.dependencies_lead, Dependencies.dependencies_of, Dependencies.dependency_of, Enough.asked_all, Leading.named, Leading.tables_in as tables_at, Used.tables_of}
 use Rattle.rls_depth.specs.{Deep.JudgeAlike, Deep.policies_in, Deep.ruled, Deep.shows_deep, Deep.state_quals}
-use Rattle.rls_guard.specs.rls_evaluation.specs.{Environments.Environment, Eval.Shows, Eval.value_of, Showing.shows}
+use Rattle.rls_access.specs.rls_guard.specs.rls_evaluation.specs.{Environments.Environment, Eval.Shows, Eval.value_of, Showing.shows}
 use Rattle.rls_depth.proofs.{Deepening.relations_few, ExpansionLaws.policies_told, Stating.reached_read, Tables.within_first, Tables.within_last, Using.behind, Walking.AreRead, Walking.are_read}
 use Rattle.rls_meaning.specs.{Commands.Command, Commands.closing_in, Commands.depth_of, Commands.needed_in, Commands.own_of, Commands.query_tables, Commands.reads, Expanding.IsExpanded, Expanding.IsExpansionIn, Expanding.Made, Expanding.Refused, Expanding.expansion_in, Expanding.sees, Expanding.check, Expanding.select_quals, Chains.closes, Parts.tables_of as tables_within}
 use Rattle.rls_meaning.proofs.{AskingSelected.PassAlike, Listing.search_told, Needing.checks_told, Dependencies.Dependencies, Dependencies.dependencies_read, Dependencies.same_dependencies, Dependencies.closing_same, Dependencies.in_order_few, Dependencies.tables_few, States.own_told, Asking.Alike, Asking.alike_append, Asking.alike_within, Asking.asked_in, Asking.first_alike, Asking.own_alike, Dependencies.both_told, Dependencies.depth, Parts.tables_if_told}

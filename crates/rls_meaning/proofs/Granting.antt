@@ -8,10 +8,10 @@ use Rattle.rls_value.specs.declared.refusal.NameKind.TheVariants as kind
 use Rattle.rls_expr.specs.{declared.policy.Grantee.Grantee, declared.policy.Grantee.TheVariants.Public, declared.policy.Grantee.TheVariants.Role, declared.table.Column.Column, declared.table.TableDef.TableDef, Tables.column_named}
 use Rattle.rls_catalog.specs.declared.change.Change.TheVariants as change
 use Rattle.rls_catalog.specs.{declared.grant.Grant.Grant, GrantOptions.grantor_of, State.State, State.grants_of}
-use Rattle.rls_guard.specs.rls_source.specs.{Asked.grants_at, Named.found_or, Sequences.each_of, Sequences.each_or_refused}
+use Rattle.rls_access.specs.rls_guard.specs.rls_source.specs.{Asked.grants_at, Named.found_or, Sequences.each_of, Sequences.each_or_refused}
 use Rattle.rls_statement.specs.{declared.statement.GrantPrivileges.GrantPrivileges, declared.privileges.Privileges.Privileges, declared.statement.RevokePrivileges.RevokePrivileges, Extents.extent_of, Extents.has_columns, Extents.is_named}
-use Rattle.rls_guard.specs.rls_role.specs.Reaching.{effective_roles_in}
-use Rattle.rls_guard.specs.rls_grant.specs.{declared.grantors.Grantor.Grantor, Columns.column_or_undefined, Columns.columns_or_undefined, Columns.columns_written, Granting.goes_back, Granting.grant, Granting.grant_on, Granting.grant_to, Granting.granted, Granting.grants_by, Granting.grants_made, Granting.optioned_or_refused, Granting.options_or_refused, Granting.with_grants, Grantors.all_privileges, Grantors.granted_by, Grantors.grantor_by, Grantors.grantor_or_denied, Grantors.grantors, Holders.holders_of, Revoking.grants_revoked, Revoking.left_after, Revoking.revoke, Revoking.revoke_from, Revoking.revoke_on, Revoking.revoked, Revoking.stays, Revoking.without_taken}
+use Rattle.rls_access.specs.rls_guard.specs.rls_role.specs.Reaching.{effective_roles_in}
+use Rattle.rls_access.specs.rls_guard.specs.rls_grant.specs.{declared.grantors.Grantor.Grantor, Columns.column_or_undefined, Columns.columns_or_undefined, Columns.columns_written, Granting.goes_back, Granting.grant, Granting.grant_on, Granting.grant_to, Granting.granted, Granting.grants_by, Granting.grants_made, Granting.optioned_or_refused, Granting.options_or_refused, Granting.with_grants, Grantors.all_privileges, Grantors.granted_by, Grantors.grantor_by, Grantors.grantor_or_denied, Grantors.grantors, Holders.holders_of, Revoking.grants_revoked, Revoking.left_after, Revoking.revoke, Revoking.revoke_from, Revoking.revoke_on, Revoking.revoked, Revoking.stays, Revoking.without_taken}
 use Rattle.rls_meaning.specs.{Analysing.place_in, Grants.left_in, Grants.option_in, Grants.put_grant, Naming.provided, Privileges.columns_in, Privileges.grant_in, Privileges.grantor_in, Privileges.grantors_in, Privileges.revoke_in}
 use Rattle.rls_meaning.proofs.Naming.{grantees_told, table_told}
 

@@ -6,10 +6,10 @@ use Rattle.rls_value.specs.declared.verb.Kind.TheVariants as k
 use Rattle.rls_expr.specs.{declared.table.TableDef.TableDef, Terms.Term}
 use Rattle.rls_catalog.specs.{declared.stored.Stored.Stored, Membership.Within, State.State}
 use Rattle.rls_catalog.specs.declared.verdict.Side.TheVariants as side
-use Rattle.rls_guard.specs.rls_source.specs.{Readings.read_then, Readings.unread, Sequences.each_of}
+use Rattle.rls_access.specs.rls_guard.specs.rls_source.specs.{Readings.read_then, Readings.unread, Sequences.each_of}
 use Rattle.rls_statement.specs.{declared.statement.Insert.Insert}
-use Rattle.rls_guard.specs.rls_evaluation.specs.{Environments.Environment, Environments.alone, Eval.Shows, Eval.value_of, Gathering.gathered, Showing.shows}
-use Rattle.rls_guard.specs.{declared.context.Ctx.Ctx, declared.effect.Effect.Effect, declared.reply.Decision.Decision, Effects.shown, RolePrivileges.role_privileges_in}
+use Rattle.rls_access.specs.rls_guard.specs.rls_evaluation.specs.{Environments.Environment, Environments.alone, Eval.Shows, Eval.value_of, Gathering.gathered, Showing.shows}
+use Rattle.rls_access.specs.rls_guard.specs.{declared.context.Ctx.Ctx, declared.effect.Effect.Effect, declared.reply.Decision.Decision, Effects.shown, RolePrivileges.role_privileges_in}
 use Rattle.rls_depth.specs.rls_expansion.specs.{declared.expansion.PolicyExpansion.PolicyExpansion, Expanding.permission_checks, Used.all_tables, Used.tables_of}
 use Rattle.rls_depth.proofs.{Tables.within_first, Tables.within_last}
 use Rattle.rls_access.specs.rls_judging.specs.{Valuing.values_on, Valuing.values_put, Valuing.with_values}

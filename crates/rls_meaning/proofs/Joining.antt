@@ -11,10 +11,10 @@ use Rattle.rls_catalog.specs.{declared.role.Membership.Membership, Changed.chang
 use Rattle.rls_catalog.specs.declared.change.Change.TheVariants as change
 use Rattle.rls_catalog.proofs.{ContentsLaws.members_of_changed, Inheriting.fresh_all, PathFrames.path_frame, Walks.bytes_own, Walks.bytes_same}
 use Rattle.rls_recursion.proofs.Closing.{not_true, one_first, one_further}
-use Rattle.rls_guard.specs.rls_source.specs.Sequences.{each_or_refused}
+use Rattle.rls_access.specs.rls_guard.specs.rls_source.specs.Sequences.{each_or_refused}
 use Rattle.rls_statement.specs.{declared.statement.GrantRoles.GrantRoles, declared.statement.MembershipOption.MembershipOption, declared.statement.MembershipOptions.MembershipOptions, declared.statement.RevokeRoles.RevokeRoles}
-use Rattle.rls_guard.specs.rls_role.specs.{declared.holding.HeldMembership.HeldMembership, Granting.each_granted, Granting.grant_member, Granting.granted_to, Granting.held_at, Granting.held_in, Granting.held_one, Granting.joined, Granting.joined_in as joined_held, Granting.managed_in as managed_at, Granting.managed_or_refused, Granting.each_managed, Granting.members_written, Granting.memberships_granted, Granting.pair_granted, Granting.pair_or_refused, Granting.path_in, Granting.role_granted, Granting.roles_granted}
-use Rattle.rls_guard.specs.rls_role.specs.{Holdings.held_as, Holdings.listed, Holdings.managed_by, Holdings.members_held, Holdings.with_held, Reaching.effective_roles_in, Revoking.memberships_revoked, Revoking.revoke_member, Revoking.roles_revoked, Revoking.taken_from, Revoking.taken_in}
+use Rattle.rls_access.specs.rls_guard.specs.rls_role.specs.{declared.holding.HeldMembership.HeldMembership, Granting.each_granted, Granting.grant_member, Granting.granted_to, Granting.held_at, Granting.held_in, Granting.held_one, Granting.joined, Granting.joined_in as joined_held, Granting.managed_in as managed_at, Granting.managed_or_refused, Granting.each_managed, Granting.members_written, Granting.memberships_granted, Granting.pair_granted, Granting.pair_or_refused, Granting.path_in, Granting.role_granted, Granting.roles_granted}
+use Rattle.rls_access.specs.rls_guard.specs.rls_role.specs.{Holdings.held_as, Holdings.listed, Holdings.managed_by, Holdings.members_held, Holdings.with_held, Reaching.effective_roles_in, Revoking.memberships_revoked, Revoking.revoke_member, Revoking.roles_revoked, Revoking.taken_from, Revoking.taken_in}
 use Rattle.rls_meaning.specs.{Memberships.grant_roles_in, Memberships.in_turn, Memberships.joined_in, Memberships.managed_in, Memberships.memberships_left, Memberships.revoke_roles_in, Naming.provided}
 use Rattle.rls_meaning.proofs.Naming.{roles_told}
 

@@ -12,7 +12,7 @@ use Rattle.rls_recursion.specs.Listings.{list_from, no_listing, put_gone_through
 use Rattle.rls_recursion.specs.Searching.{nothing_yet, visit_all, visit, searched_from}
 use Rattle.rls_recursion.proofs.Closing.{or_cases, one_cases, one_first, one_further}
 use Rattle.rls_recursion.proofs.Ending.{IsTold, told_then, all_told, visit_told, left_most}
-use Rattle.rls_guard.specs.rls_source.specs.Sequences.{each_or_refused}
+use Rattle.rls_access.specs.rls_guard.specs.rls_source.specs.Sequences.{each_or_refused}
 use Rattle.rls_meaning.specs.Needing.{Follows, ListedIsNeeded, needed_by}
 
 -- ---- those that aren't seen yet

@@ -5,7 +5,7 @@ use Rattle.rls_value.specs.{Giving.and_then}
 use Rattle.rls_catalog.specs.State.{State}
 use Rattle.rls_statement.specs.{declared.statement.Statement.Statement, Tags.tag_of}
 use Rattle.rls_statement.specs.declared.statement.Statement.TheVariants as statement
-use Rattle.rls_guard.specs.{declared.context.Ctx.Ctx, Effects.shown}
+use Rattle.rls_access.specs.rls_guard.specs.{declared.context.Ctx.Ctx, Effects.shown}
 use Rattle.rls_access.specs.Statements.{done_by, effect_in, mode_or_refused}
 use Rattle.rls_meaning.specs.{Deleting.DeleteMeans, Inserting.InsertMeans, Meaning.StatementMeans, Meaning.effect_of, Meaning.meant_in, Meaning.written, Selecting.SelectMeans, Updating.UpdateMeans}
 use Rattle.rls_meaning.proofs.{Defining.alter_policy_told, Defining.alter_role_told, Defining.alter_table_told, Defining.create_policy_told, Defining.create_role_told, Defining.create_table_told, Defining.drop_policy_told, Defining.set_role_told, Granting.GrantorMeans, Granting.grant_told, Granting.revoke_told, Joining.MembershipsMean, Joining.grant_roles_told, Joining.revoke_roles_told}

@@ -8,17 +8,17 @@ use Rattle.rls_catalog.specs.{Membership.nobody, Membership.reached_of, State.St
 use Rattle.rls_catalog.specs.declared.change.Change.TheVariants as change
 use Rattle.rls_catalog.specs.declared.verdict.Side.TheVariants as side
 use Rattle.rls_catalog.specs.declared.verdict.Verdict.TheVariants as verdict
-use Rattle.rls_guard.specs.rls_source.specs.Asked.{rows_at}
+use Rattle.rls_access.specs.rls_guard.specs.rls_source.specs.Asked.{rows_at}
 use Rattle.rls_statement.specs.declared.privileges.Extent.{Extent}
 use Rattle.rls_statement.specs.declared.statement.Selected.TheVariants as selected
 use Rattle.rls_statement.specs.declared.statement.SetRole.TheVariants as set
 use Rattle.rls_statement.specs.declared.command.TransactionCommand.TheVariants as transaction
 use Rattle.rls_statement.specs.declared.statement.Statement.{Statement}
 use Rattle.rls_statement.specs.declared.statement.Statement.TheVariants as statement
-use Rattle.rls_guard.specs.declared.context.Ctx.{Ctx}
-use Rattle.rls_guard.specs.declared.context.Mode.TheVariants.{Read, Write}
-use Rattle.rls_guard.specs.declared.effect.Effect.TheVariants as effect
-use Rattle.rls_guard.specs.declared.reply.Reply.TheVariants as reply
+use Rattle.rls_access.specs.rls_guard.specs.declared.context.Ctx.{Ctx}
+use Rattle.rls_access.specs.rls_guard.specs.declared.context.Mode.TheVariants.{Read, Write}
+use Rattle.rls_access.specs.rls_guard.specs.declared.effect.Effect.TheVariants as effect
+use Rattle.rls_access.specs.rls_guard.specs.declared.reply.Reply.TheVariants as reply
 use Rattle.rls_meaning.specs.Meaning.{effect_of}
 
 -- ---- the state

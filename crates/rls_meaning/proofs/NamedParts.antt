@@ -10,9 +10,9 @@ use Rattle.rls_value.specs.declared.refusal.NameKind.TheVariants as kind
 use Rattle.rls_expr.specs.{declared.column_name.ColumnName.ColumnName, declared.expr.FromItem.FromItem, declared.table.TableDef.TableDef, Naming.Step, Naming.Look, Naming.Leave, Naming.names_of, Naming.query_names, Naming.names_all, Scopes.InScope, Scopes.var_in}
 use Rattle.rls_expr.specs.Terms.{Term, Terms, Query, Literal, Column, Var, CurrentUser, Compare, And, Or, Not, IsNull, IsNotNull, InList, NotInList, Exists, InSubquery, NotInSubquery, Scalar, Sum, End, More, Select, qualifier_of, terms_of}
 use Rattle.rls_catalog.specs.State.{State, table_of}
-use Rattle.rls_guard.specs.rls_source.specs.{Named.found_or, Sequences.each_or_refused}
+use Rattle.rls_access.specs.rls_guard.specs.rls_source.specs.{Named.found_or, Sequences.each_or_refused}
 use Rattle.rls_statement.specs.declared.changing.Assignment.{Assignment}
-use Rattle.rls_guard.specs.Naming.{there_or_undefined}
+use Rattle.rls_access.specs.rls_guard.specs.Naming.{there_or_undefined}
 use Rattle.rls_access.specs.rls_dml.specs.{Checking.where_names, Inserting.tuples_names, Updating.assignments_names}
 use Rattle.rls_meaning.specs.Naming.{named_in}
 use Rattle.rls_meaning.specs.Parts.{Part, Expression, around_in, found_in, is_there, names_in, parts, parts_all, query_parts, table_of_part, tables_of}

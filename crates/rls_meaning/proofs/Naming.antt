@@ -3,8 +3,8 @@ use Rattle.std.specs.Prelude.{◌≡◌, refl, ℕ, List, [], ◌∷◌, ◌++�
 use Rattle.rls_value.specs.{declared.refusal.Refusal.Refusal, Giving.and_then}
 use Rattle.rls_expr.specs.{declared.policy.Grantee.Grantee, declared.policy.Grantee.TheVariants.Public, declared.policy.Grantee.TheVariants.Role, Naming.Step, Naming.Look, Naming.Enter, Naming.Leave, Scopes.InScope, Scopes.var_in, Terms.qualifier_of}
 use Rattle.rls_catalog.specs.State.{State}
-use Rattle.rls_guard.specs.rls_source.specs.{Asked.role_at, Asked.table_at, Named.grantees_or_undefined, Named.role_or_undefined, Named.roles_or_undefined, Named.table_or_undefined}
-use Rattle.rls_guard.specs.Naming.{named, there_or_undefined}
+use Rattle.rls_access.specs.rls_guard.specs.rls_source.specs.{Asked.role_at, Asked.table_at, Named.grantees_or_undefined, Named.role_or_undefined, Named.roles_or_undefined, Named.table_or_undefined}
+use Rattle.rls_access.specs.rls_guard.specs.Naming.{named, there_or_undefined}
 use Rattle.rls_meaning.specs.Naming.{grantees_in, named_in, role_in, roles_in, table_in}
 
 pub and_then_same : {A B : Type 0} (one other : Result A Refusal) (f g : A → Result B Refusal) → one ≡ other → ((a : A) → f a ≡ g a) → and_then one f ≡ and_then other g

@@ -5,8 +5,8 @@ use Rattle.std.proofs.Common.{arith, ap, sym, ◌∙◌}
 use Rattle.rls_value.specs.{Giving.and_then, Names.one_of}
 use Rattle.rls_expr.specs.{declared.columns.SelectedTable.SelectedTable, Scopes.InScope}
 use Rattle.rls_catalog.specs.{Membership.Within, State.State}
-use Rattle.rls_guard.specs.rls_source.specs.Sequences.{each_or_refused}
-use Rattle.rls_guard.specs.{RolePrivileges.role_privileges_in}
+use Rattle.rls_access.specs.rls_guard.specs.rls_source.specs.Sequences.{each_or_refused}
+use Rattle.rls_access.specs.rls_guard.specs.{RolePrivileges.role_privileges_in}
 use Rattle.rls_recursion.specs.{declared.dependency.PolicyDependency.PolicyDependency, Listings.leads_of, Listings.list_from, Listings.listed, Listings.no_listing, Searching.InOrder, Searching.subquery_tables_of, Searching.tables_in}
 use Rattle.rls_depth.specs.rls_expansion.specs.{Expanding.own_selected, Relations.known_in, Selected.subqueries_in}
 use Rattle.rls_depth.specs.{Deep.policies_in, Leading.using_tables}

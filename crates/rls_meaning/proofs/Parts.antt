@@ -10,9 +10,9 @@ use Rattle.rls_expr.specs.declared.expr.Selects.TheVariants as s
 use Rattle.rls_expr.specs.Naming.{Step, Look, Enter, Leave, names_of, query_names, names_all}
 use Rattle.rls_expr.specs.Parts as machine
 use Rattle.rls_expr.specs.Terms.{Term, Terms, Query, Literal, Column, Var, CurrentUser, Compare, And, Or, Not, IsNull, IsNotNull, InList, NotInList, Exists, InSubquery, NotInSubquery, Scalar, Sum, End, More, Select}
-use Rattle.rls_guard.specs.Checks as checks
-use Rattle.rls_guard.specs.Support as support
-use Rattle.rls_guard.specs.Support.{is_pinned}
+use Rattle.rls_access.specs.rls_guard.specs.Checks as checks
+use Rattle.rls_access.specs.rls_guard.specs.Support as support
+use Rattle.rls_access.specs.rls_guard.specs.Support.{is_pinned}
 use Rattle.rls_depth.specs.rls_expansion.specs.Used.{entered}
 use Rattle.rls_depth.specs.rls_expansion.specs.Used as used
 use Rattle.rls_meaning.specs.Parts.{Part, Subquery, has_query, is_column_of, is_unsupported, is_unsupported_item, mentions, lacks_support, is_unlisted, parts, parts_all, query_parts, table_of_part, tables_of}

@@ -7,11 +7,11 @@ use Rattle.rls_value.specs.{declared.refusal.Refusal.Refusal, declared.refusal.R
 use Rattle.rls_expr.specs.{declared.columns.SelectedTable.SelectedTable, Terms.Term, Terms.maybe_term}
 use Rattle.rls_catalog.specs.{declared.stored.Stored.Stored, Membership.Within, Membership.attributes_of, Membership.walked_by, Privileges.missing, State.State, State.grants_of}
 use Rattle.rls_catalog.specs.declared.verdict.Side.TheVariants as side
-use Rattle.rls_guard.specs.rls_source.specs.Sequences.{each_or_refused}
-use Rattle.rls_guard.specs.rls_grant.specs.Missing.{missing_in}
-use Rattle.rls_guard.specs.rls_source.specs.{Asked.asked_grants, Asked.asked_key, Asked.grants_at, Asked.keyed_at, Asked.rows_at, Askings.Asking, Askings.asked_if, Askings.followed_by, Askings.known, Readings.read_then, Readings.unread}
-use Rattle.rls_guard.specs.rls_evaluation.specs.{Environments.Environment, Environments.over, Eval.Shows, Eval.meets, Eval.value_of, Gathering.gathered, Showing.shows}
-use Rattle.rls_guard.specs.{declared.effect.Effect.Effect, declared.quals.RowCheck.RowCheck, declared.reply.Decision.Decision, declared.permission_check.PermissionCheck.PermissionCheck, declared.role_privileges.RolePrivileges.RolePrivileges, RolePrivileges.permission_or_denied, RolePrivileges.refused_for, RolePrivileges.role_privileges_in}
+use Rattle.rls_access.specs.rls_guard.specs.rls_source.specs.Sequences.{each_or_refused}
+use Rattle.rls_access.specs.rls_guard.specs.rls_grant.specs.Missing.{missing_in}
+use Rattle.rls_access.specs.rls_guard.specs.rls_source.specs.{Asked.asked_grants, Asked.asked_key, Asked.grants_at, Asked.keyed_at, Asked.rows_at, Askings.Asking, Askings.asked_if, Askings.followed_by, Askings.known, Readings.read_then, Readings.unread}
+use Rattle.rls_access.specs.rls_guard.specs.rls_evaluation.specs.{Environments.Environment, Environments.over, Eval.Shows, Eval.meets, Eval.value_of, Gathering.gathered, Showing.shows}
+use Rattle.rls_access.specs.rls_guard.specs.{declared.effect.Effect.Effect, declared.quals.RowCheck.RowCheck, declared.reply.Decision.Decision, declared.permission_check.PermissionCheck.PermissionCheck, declared.role_privileges.RolePrivileges.RolePrivileges, RolePrivileges.permission_or_denied, RolePrivileges.refused_for, RolePrivileges.role_privileges_in}
 use Rattle.rls_depth.specs.rls_expansion.specs.{declared.expansion.PolicyExpansion.PolicyExpansion, Expanding.expansion_of, Expanding.judges_new, Expanding.judges_old, Expanding.permission_checks, Used.tables_if}
 use Rattle.rls_depth.specs.{Deep.JudgeAlike}
 use Rattle.rls_access.specs.rls_judging.specs.{ScannedRows.scanned_rows, ScannedRows.scanned_rows_with, ScannedRows.pinned_key, Judging.are_allowed, Judging.decisions_on, Judging.qualifying_rows_of, Judging.judged_all, Judging.judged_new, Judging.judged_old, Judging.with_decision, Judging.with_decisions, Judging.with_judged}

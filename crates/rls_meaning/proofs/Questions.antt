@@ -5,8 +5,8 @@ use Rattle.rls_value.specs.{declared.refusal.Refusal.Refusal, declared.value.Val
 use Rattle.rls_expr.specs.Terms.{Term, maybe_term}
 use Rattle.rls_catalog.specs.{declared.stored.Stored.Stored, State.State}
 use Rattle.rls_catalog.specs.declared.verdict.Side.TheVariants as side
-use Rattle.rls_guard.specs.rls_evaluation.specs.{Environments.alone, Environments.over, Gathering.gathered}
-use Rattle.rls_guard.specs.declared.reply.Decision.{Decision}
+use Rattle.rls_access.specs.rls_guard.specs.rls_evaluation.specs.{Environments.alone, Environments.over, Gathering.gathered}
+use Rattle.rls_access.specs.rls_guard.specs.declared.reply.Decision.{Decision}
 use Rattle.rls_access.specs.rls_judging.specs.{Judging.decisions_on, Judging.judged_old, Judging.with_decisions, Judging.with_judged, Valuing.values_on, Valuing.with_row_values, Valuing.with_values}
 use Rattle.rls_meaning.specs.{Commands.Command, Evaluating.value, Expanding.sees, Expanding.checks, Rows.scanned, Rows.shown_to}
 

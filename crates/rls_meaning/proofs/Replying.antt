@@ -5,11 +5,11 @@ use Rattle.std.proofs.Common.{ap, ◌∙◌, sym}
 use Rattle.rls_value.specs.{declared.refusal.Refusal.Refusal, declared.value.Value.Value, declared.value.Value.TheVariants.Int, Giving.and_then}
 use Rattle.rls_expr.specs.Terms.{Term}
 use Rattle.rls_catalog.specs.declared.stored.Stored.{Stored}
-use Rattle.rls_guard.specs.rls_source.specs.Sequences.{each_of}
+use Rattle.rls_access.specs.rls_guard.specs.rls_source.specs.Sequences.{each_of}
 use Rattle.rls_statement.specs.declared.statement.Selected.{Selected}
 use Rattle.rls_statement.specs.declared.statement.Selected.TheVariants.{All, Items, Count}
-use Rattle.rls_guard.specs.rls_evaluation.specs.Environments.{over}
-use Rattle.rls_guard.specs.declared.reply.Reply.TheVariants as reply
+use Rattle.rls_access.specs.rls_guard.specs.rls_evaluation.specs.Environments.{over}
+use Rattle.rls_access.specs.rls_guard.specs.declared.reply.Reply.TheVariants as reply
 use Rattle.rls_access.specs.rls_dml.specs.{Listings.listing, Listings.values_of, Writing.each_taking, Writing.each_with}
 use Rattle.rls_access.specs.rls_dml.specs.Listings.{answered as machine_answered, reply_of as machine_reply_of}
 use Rattle.rls_meaning.specs.{Evaluating.no_rows, Evaluating.value, Replies.answered, Replies.reply_of}

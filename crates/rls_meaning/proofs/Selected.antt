@@ -9,7 +9,7 @@ use Rattle.rls_expr.specs.{declared.columns.SelectedTable.SelectedTable, declare
 use Rattle.rls_expr.specs.Terms.{Term, Terms, Query, Literal, Column, Var, CurrentUser, Compare, And, Or, Not, IsNull, IsNotNull, InList, NotInList, Exists, InSubquery, NotInSubquery, Scalar, Sum, End, More, Select}
 use Rattle.rls_expr.proofs.SelectingLaws.{selected_tables}
 use Rattle.rls_catalog.specs.{Applying.applying_on, declared.verdict.Side.Side, Membership.Within, Privileges.includes, State.State, State.policies_of, State.table_of, Verdict.chosen, Verdict.exempts}
-use Rattle.rls_guard.specs.{declared.role_privileges.RolePrivileges.RolePrivileges, Naming.names_over, RolePrivileges.has_owner, RolePrivileges.role_privileges_in}
+use Rattle.rls_access.specs.rls_guard.specs.{declared.role_privileges.RolePrivileges.RolePrivileges, Naming.names_over, RolePrivileges.has_owner, RolePrivileges.role_privileges_in}
 use Rattle.rls_recursion.specs.{declared.dependency.PolicyDependency.PolicyDependency, Listings.leads_of, Searching.dependency_in}
 use Rattle.rls_depth.specs.rls_expansion.specs.{Dependencies.dependency_by, Expanding.asks_of, Expanding.own_selected, Expanding.own_tables, Selected.selected_asked, Selected.selected_by, Selected.selected_if, Selected.selected_of_table, Selected.selected_read, Selected.selected_used, Selected.selected_where, Selected.subqueries_in, Used.Ask, Used.entered, Used.is_for_check, Used.is_for_using, Used.tables_asked, Used.tables_by, Used.tables_if, Used.tables_used, Used.tables_where}
 use Rattle.rls_depth.specs.{Leading.using_tables}

@@ -8,9 +8,9 @@ use Rattle.rls_expr.specs.{declared.table.TableDef.TableDef}
 use Rattle.rls_catalog.specs.{State.State}
 use Rattle.rls_catalog.specs.declared.verdict.Side.TheVariants as side
 use Rattle.rls_statement.specs.{declared.statement.Select.Select}
-use Rattle.rls_guard.specs.{Effects.shown}
-use Rattle.rls_guard.specs.declared.effect.Effect.TheVariants as effect
-use Rattle.rls_guard.specs.declared.reply.Reply.TheVariants as reply
+use Rattle.rls_access.specs.rls_guard.specs.{Effects.shown}
+use Rattle.rls_access.specs.rls_guard.specs.declared.effect.Effect.TheVariants as effect
+use Rattle.rls_access.specs.rls_guard.specs.declared.reply.Reply.TheVariants as reply
 use Rattle.rls_depth.specs.rls_expansion.specs.{Used.tables_if}
 use Rattle.rls_access.specs.rls_dml.specs.{declared.selecting.AnalysedSelect.AnalysedSelect, Selecting.listed_by, Selecting.listed_for, Selecting.listed_from, Selecting.qualifier_of, Selecting.analysed_select_for, Selecting.analysed_select_in, Selecting.analysed_select_names, Selecting.select_as, Selecting.select_columns, Selecting.select_from, Checking.where_selected}
 use Rattle.rls_access.specs.{Statements.mode_or_refused}

@@ -9,10 +9,10 @@ use Rattle.rls_expr.specs.{declared.policy.Policy.Policy, declared.table.TableDe
 use Rattle.rls_catalog.specs.{declared.stored.Stored.Stored, declared.verdict.Side.Side, declared.verdict.Verdict.Verdict, State.State, State.table_of, Verdict.applying_of, Verdict.expression_of, Verdict.is_exempt, Verdict.verdict_of}
 use Rattle.rls_catalog.specs.declared.verdict.Side.TheVariants as side
 use Rattle.rls_catalog.specs.declared.verdict.Verdict.TheVariants as v
-use Rattle.rls_guard.specs.rls_source.specs.{Asked.asked_key, Asked.keyed_at, Asked.rows_at, Askings.Asking, Askings.asked_if, Askings.followed_by, Askings.known}
-use Rattle.rls_guard.specs.rls_evaluation.specs.{declared.relation.SecurityQuals.SecurityQuals, declared.relation.SecurityQuals.TheVariants.Exempt, declared.relation.SecurityQuals.TheVariants.Policies, Environments.Environment, Environments.alone, Environments.over, Eval.Shows, Eval.value_of, Gathering.gathered, Gathering.kept, Gathering.with_row}
-use Rattle.rls_guard.specs.rls_evaluation.specs.Showing.{allows, asked_for, is_allowed, judgements_on, values_of, verdict_on as machine_verdict_on}
-use Rattle.rls_guard.specs.{declared.quals.RowCheck.RowCheck, declared.reply.Decision.Decision, SecurityQuals.conditions_of, SecurityQuals.with_condition}
+use Rattle.rls_access.specs.rls_guard.specs.rls_source.specs.{Asked.asked_key, Asked.keyed_at, Asked.rows_at, Askings.Asking, Askings.asked_if, Askings.followed_by, Askings.known}
+use Rattle.rls_access.specs.rls_guard.specs.rls_evaluation.specs.{declared.relation.SecurityQuals.SecurityQuals, declared.relation.SecurityQuals.TheVariants.Exempt, declared.relation.SecurityQuals.TheVariants.Policies, Environments.Environment, Environments.alone, Environments.over, Eval.Shows, Eval.value_of, Gathering.gathered, Gathering.kept, Gathering.with_row}
+use Rattle.rls_access.specs.rls_guard.specs.rls_evaluation.specs.Showing.{allows, asked_for, is_allowed, judgements_on, values_of, verdict_on as machine_verdict_on}
+use Rattle.rls_access.specs.rls_guard.specs.{declared.quals.RowCheck.RowCheck, declared.reply.Decision.Decision, SecurityQuals.conditions_of, SecurityQuals.with_condition}
 use Rattle.rls_depth.specs.Deep.{ruled, shown_by, shows_deep}
 use Rattle.rls_access.specs.rls_judging.specs.{Judging.are_allowed, Judging.decision_by, Judging.decisions_on as machine_decisions_on, Judging.judged_old, Judging.qualifies_if, Judging.row_if_qualifying, Judging.with_judged, Valuing.values_on}
 use Rattle.rls_meaning.specs.{Commands.Command, Commands.depth_of, Commands.reads, Evaluating.Shown, Evaluating.is_met, Evaluating.value, Expanding.check, Expanding.checks, Expanding.sees, Expanding.select_quals, Resolving.resolved}

@@ -8,7 +8,7 @@ use Rattle.std.proofs.lemmas.List.Folds.{list_any-append}
 use Rattle.rls_value.specs.{declared.verb.Kind.Kind}
 use Rattle.rls_expr.specs.{declared.policy.Policy.Policy, declared.table.TableDef.TableDef, Terms.Term}
 use Rattle.rls_catalog.specs.{Applying.applying_on, declared.verdict.Side.Side, State.State, State.table_of, State.policies_of, Privileges.includes, Membership.Within, Verdict.chosen, Verdict.exempts, Verdict.is_asked, Verdict.is_for_kind}
-use Rattle.rls_guard.specs.{declared.role_privileges.RolePrivileges.RolePrivileges, RolePrivileges.role_privileges_in, RolePrivileges.has_owner}
+use Rattle.rls_access.specs.rls_guard.specs.{declared.role_privileges.RolePrivileges.RolePrivileges, RolePrivileges.role_privileges_in, RolePrivileges.has_owner}
 use Rattle.rls_recursion.specs.{declared.dependency.PolicyDependency.PolicyDependency, Searching.has_subquery_of, Searching.subquery_tables_of, Searching.subquery_tables_in as subquery_tables_at, Searching.has_subquery_in as has_subquery_at, Searching.dependency_in}
 use Rattle.rls_recursion.proofs.Closing.{one_first}
 use Rattle.rls_depth.specs.rls_expansion.specs.{Expanding.asks_of, Expanding.own_tables, Dependencies.reading, Dependencies.dependency_by, Used.Ask, Used.has_query_if, Used.holds_subquery, Used.tables_asked, Used.tables_if, Used.tables_used, Used.tables_where}

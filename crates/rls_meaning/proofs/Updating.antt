@@ -6,10 +6,10 @@ use Rattle.rls_value.specs.declared.verb.Kind.TheVariants as k
 use Rattle.rls_expr.specs.{declared.table.TableDef.TableDef, Terms.Term}
 use Rattle.rls_catalog.specs.{declared.stored.Stored.Stored, Membership.Within, State.State}
 use Rattle.rls_catalog.specs.declared.verdict.Side.TheVariants as side
-use Rattle.rls_guard.specs.rls_source.specs.{Sequences.each_of}
+use Rattle.rls_access.specs.rls_guard.specs.rls_source.specs.{Sequences.each_of}
 use Rattle.rls_statement.specs.{declared.changing.Update.Update}
-use Rattle.rls_guard.specs.rls_evaluation.specs.{Environments.over, Showing.shows}
-use Rattle.rls_guard.specs.{declared.effect.Effect.Effect, declared.reply.Decision.Decision, Effects.shown, RolePrivileges.role_privileges_in}
+use Rattle.rls_access.specs.rls_guard.specs.rls_evaluation.specs.{Environments.over, Showing.shows}
+use Rattle.rls_access.specs.rls_guard.specs.{declared.effect.Effect.Effect, declared.reply.Decision.Decision, Effects.shown, RolePrivileges.role_privileges_in}
 use Rattle.rls_depth.specs.rls_expansion.specs.{declared.expansion.PolicyExpansion.PolicyExpansion, Expanding.permission_checks, Used.all_tables, Used.tables_if}
 use Rattle.rls_depth.proofs.{Tables.within_first, Tables.within_last}
 use Rattle.rls_access.specs.rls_judging.specs.{ScannedRows.scanned_rows_with, ScannedRows.pinned_key, Judging.judged_all, Valuing.values_on, Valuing.values_set, Valuing.with_row_values}

@@ -8,7 +8,7 @@ use Rattle.rls_value.specs.declared.refusal.NameKind.TheVariants as kind
 use Rattle.rls_expr.specs.{declared.table.Column.Column, Scopes.InScope, Tables.category_of, Tables.column_named, Terms.Term}
 use Rattle.rls_expr.specs.declared.expr.Category.TheVariants as t
 use Rattle.rls_catalog.specs.State.{State}
-use Rattle.rls_guard.specs.rls_source.specs.Named.{found_or}
+use Rattle.rls_access.specs.rls_guard.specs.rls_source.specs.Named.{found_or}
 use Rattle.rls_statement.specs.declared.statement.Selected.{Selected}
 use Rattle.rls_statement.specs.declared.statement.Selected.TheVariants as selected
 use Rattle.rls_meaning.specs.{Naming.provided, Parts.is_unsupported, Parts.is_unsupported_item, Parts.columns_of, Resolving.resolved, Typing.fits, Typing.some_type}

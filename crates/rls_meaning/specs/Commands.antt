@@ -8,8 +8,8 @@ use Rattle.rls_value.specs.declared.verb.Kind.TheVariants as k
 use Rattle.rls_expr.specs.{declared.columns.SelectedTable.SelectedTable, declared.policy.Policy.Policy, declared.table.TableDef.TableDef, Scopes.InScope}
 use Rattle.rls_catalog.specs.{Privileges.missing, State.State, State.policies_of, Verdict.expression_of, Verdict.is_exempt, Verdict.is_for_kind, Verdict.is_to}
 use Rattle.rls_catalog.specs.declared.verdict.Side.TheVariants as side
-use Rattle.rls_guard.specs.rls_source.specs.Sequences.{each_or_refused}
-use Rattle.rls_guard.specs.{declared.permission_check.PermissionCheck.PermissionCheck, RolePrivileges.refused_for}
+use Rattle.rls_access.specs.rls_guard.specs.rls_source.specs.Sequences.{each_or_refused}
+use Rattle.rls_access.specs.rls_guard.specs.{declared.permission_check.PermissionCheck.PermissionCheck, RolePrivileges.refused_for}
 use Rattle.rls_access.specs.rls_dml.specs.Checking.{has_some}
 use Rattle.rls_meaning.specs.{Chains.closes, Chains.selected_in, Chains.selected_tables_in, Needing.needed_by, Parts.tables_of}
 

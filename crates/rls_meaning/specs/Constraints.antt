@@ -6,8 +6,8 @@ use Rattle.std.specs.Option.{option_map_or}
 use Rattle.rls_value.specs.{declared.refusal.Refusal.Refusal, declared.refusal.Refusal.TheVariants.NotNull, declared.refusal.Refusal.TheVariants.Unique, declared.value.Value.Value, Values.is_null, Values.value_at, Giving.and_then}
 use Rattle.rls_expr.specs.declared.table.Column.{Column}
 use Rattle.rls_catalog.specs.{declared.stored.Stored.Stored, State.State, State.is_same_id, State.rows_with_key}
-use Rattle.rls_guard.specs.rls_source.specs.Sequences.{each_or_refused}
-use Rattle.rls_guard.specs.declared.reply.Decision.{Decision}
+use Rattle.rls_access.specs.rls_guard.specs.rls_source.specs.Sequences.{each_or_refused}
+use Rattle.rls_access.specs.rls_guard.specs.declared.reply.Decision.{Decision}
 use Rattle.rls_access.specs.rls_dml.specs.Writing.{has_doubles, keys_of, verdict_or_denied}
 use Rattle.rls_meaning.specs.Naming.{provided}
 

@@ -9,8 +9,8 @@ use Rattle.rls_catalog.specs.{declared.change.Change.Change, declared.stored.Sto
 use Rattle.rls_catalog.specs.declared.verdict.Side.TheVariants as side
 use Rattle.rls_statement.specs.{declared.changing.Delete.Delete}
 use Rattle.rls_statement.specs.declared.statement.Statement.TheVariants as statement
-use Rattle.rls_guard.specs.{declared.context.Ctx.Ctx, declared.effect.Effect.Effect, Effects.shown}
-use Rattle.rls_guard.specs.declared.effect.Effect.TheVariants as effect
+use Rattle.rls_access.specs.rls_guard.specs.{declared.context.Ctx.Ctx, declared.effect.Effect.Effect, Effects.shown}
+use Rattle.rls_access.specs.rls_guard.specs.declared.effect.Effect.TheVariants as effect
 use Rattle.rls_access.specs.rls_dml.specs.{declared.deleting.AnalysedDelete.AnalysedDelete}
 use Rattle.rls_access.specs.{Statements.effect_in, Statements.mode_or_refused}
 use Rattle.rls_meaning.specs.{Commands.Command, Commands.permitted_in, Naming.table_in, Replies.kept, Replies.reply_of, Replies.row_change, Rows.decisions, Rows.qualifying, Rows.scanned, Analysing.checked, Analysing.items_of, Analysing.items_resolved, Analysing.of_both, Analysing.columns_in, Resolving.resolved, Parts.found_in, Parts.names_in}

@@ -7,7 +7,7 @@ use Rattle.rls_value.specs.declared.truth.Truth.TheVariants.{True, False}
 use Rattle.rls_value.specs.declared.value.Value.TheVariants.{Null, Text, Bool as Flag}
 use Rattle.rls_expr.specs.declared.expr.Sign.{Sign}
 use Rattle.rls_expr.specs.Terms.{Term, Terms, Query, Literal, Column, Var, CurrentUser, Compare, And, Or, Not, IsNull, IsNotNull, InList, NotInList, Exists, InSubquery, NotInSubquery, Scalar, Sum, End, More, Select}
-use Rattle.rls_guard.specs.rls_evaluation.specs.{Environments.Environment, Environments.compared, Environments.inside, Environments.joined, Environments.number_or_null, Environments.row_at, Keys.key_of}
+use Rattle.rls_access.specs.rls_guard.specs.rls_evaluation.specs.{Environments.Environment, Environments.compared, Environments.inside, Environments.joined, Environments.number_or_null, Environments.row_at, Keys.key_of}
 
 -- what each table shows in a subquery: its rows or, with a key, those that have it
 abbrev pub Shown : Type 0

@@ -6,11 +6,11 @@ use Rattle.rls_value.specs.{declared.refusal.Refusal.Refusal, declared.verb.Kind
 use Rattle.rls_value.specs.declared.verb.Kind.TheVariants as k
 use Rattle.rls_value.specs.declared.refusal.Refusal.TheVariants.{Recursion}
 use Rattle.rls_expr.specs.{declared.columns.SelectedTable.SelectedTable, Terms.Term}
-use Rattle.rls_guard.specs.rls_source.specs.Sequences.{each_or_refused}
+use Rattle.rls_access.specs.rls_guard.specs.rls_source.specs.Sequences.{each_or_refused}
 use Rattle.rls_catalog.specs.{declared.verdict.Side.Side, Membership.Within, State.State, State.table_of}
 use Rattle.rls_catalog.specs.declared.verdict.Side.TheVariants as side
-use Rattle.rls_guard.specs.rls_evaluation.specs.{declared.relation.SecurityQuals.SecurityQuals, Environments.Environment, Eval.Shows, Eval.value_of, Showing.shows}
-use Rattle.rls_guard.specs.{declared.quals.RowCheck.RowCheck, RolePrivileges.role_privileges_in}
+use Rattle.rls_access.specs.rls_guard.specs.rls_evaluation.specs.{declared.relation.SecurityQuals.SecurityQuals, Environments.Environment, Eval.Shows, Eval.value_of, Showing.shows}
+use Rattle.rls_access.specs.rls_guard.specs.{declared.quals.RowCheck.RowCheck, RolePrivileges.role_privileges_in}
 use Rattle.rls_depth.specs.rls_expansion.specs.{declared.expansion.PolicyExpansion.PolicyExpansion, Expanding.judges_new, Expanding.judges_old, Expanding.expansion_of, Expanding.permission_checks, Used.tables_of}
 use Rattle.rls_depth.specs.Deep.{JudgeAlike, ruled, shows_deep}
 use Rattle.rls_meaning.specs.{Commands.Command, Commands.closing_in, Commands.depth_of, Commands.needed_in, Commands.own_of, Commands.query_tables, Commands.reads}

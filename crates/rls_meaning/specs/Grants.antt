@@ -6,9 +6,9 @@ use Rattle.std.specs.Ordering.{is_eq, is_lt}
 use Rattle.rls_value.specs.{declared.refusal.GrantFault.TheVariants.Back, declared.refusal.GrantFault.TheVariants.PublicOption, declared.refusal.Refusal.Refusal, declared.refusal.Refusal.TheVariants.Dependent, declared.refusal.Refusal.TheVariants.GrantOp, Giving.and_then, Names.one_of}
 use Rattle.rls_expr.specs.{declared.policy.Grantee.Grantee, declared.policy.Grantee.TheVariants.Public, declared.policy.Grantee.TheVariants.Role}
 use Rattle.rls_catalog.specs.{declared.grant.Grant.Grant, GrantOptions.is_grant_of}
-use Rattle.rls_guard.specs.rls_source.specs.Sequences.{each_or_refused, put_before}
+use Rattle.rls_access.specs.rls_guard.specs.rls_source.specs.Sequences.{each_or_refused, put_before}
 use Rattle.rls_statement.specs.{declared.statement.RevokePrivileges.RevokePrivileges, Extents.extent_of, Extents.takes_from}
-use Rattle.rls_guard.specs.rls_grant.specs.{declared.grantors.Grantor.Grantor, Granting.goes_back, Granting.grant_order, Holders.holders_of, Revoking.stays}
+use Rattle.rls_access.specs.rls_guard.specs.rls_grant.specs.{declared.grantors.Grantor.Grantor, Granting.goes_back, Granting.grant_order, Holders.holders_of, Revoking.stays}
 use Rattle.rls_meaning.specs.Naming.{provided}
 
 -- the grant in its place: one that is there keeps its grant option, and gets that of the new one

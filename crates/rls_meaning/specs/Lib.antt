@@ -28,4 +28,3 @@ pub use Rattle.rls_access.specs.rls_ddl
 pub use Rattle.rls_access.specs.rls_dml
 pub use Rattle.rls_depth
 pub use Rattle.rls_depth.specs.rls_expansion
-pub use Rattle.rls_guard

@@ -4,7 +4,7 @@ use Rattle.rls_value.specs.{declared.refusal.Refusal.Refusal, Giving.and_then}
 use Rattle.rls_catalog.specs.{declared.change.Change.Change, State.State}
 use Rattle.rls_statement.specs.{declared.statement.Statement.Statement, Tags.tag_of}
 use Rattle.rls_statement.specs.declared.statement.Statement.TheVariants as statement
-use Rattle.rls_guard.specs.{declared.context.Ctx.Ctx, declared.effect.Effect.Effect, Effects.shown, Effects.writes}
+use Rattle.rls_access.specs.rls_guard.specs.{declared.context.Ctx.Ctx, declared.effect.Effect.Effect, Effects.shown, Effects.writes}
 use Rattle.rls_access.specs.Statements.{effect_in, in_progress, mode_or_refused}
 use Rattle.rls_meaning.specs.{Deleting.delete_in, Inserting.insert_in, Memberships.grant_roles_in, Memberships.revoke_roles_in, Policies.alter_policy_in, Policies.create_policy_in, Policies.drop_policy_in, Privileges.grant_in, Privileges.revoke_in, Roles.alter_role_in, Roles.create_role_in, Roles.set_role_in, Selecting.select_in, Tables.alter_table_in, Tables.create_table_in, Updating.update_in}
 

@@ -9,9 +9,9 @@ use Rattle.rls_value.specs.{declared.refusal.GrantFault.TheVariants.Cycle, decla
 use Rattle.rls_value.specs.declared.refusal.Why.TheVariants as why
 use Rattle.rls_catalog.specs.{declared.change.Change.Change, Membership.fresh, Paths.closes_circle, Paths.may_grant, State.State, State.members_of, State.name_order, declared.role.Membership.Membership}
 use Rattle.rls_catalog.specs.declared.change.Change.TheVariants as change
-use Rattle.rls_guard.specs.rls_source.specs.{Sequences.each_or_refused, Sequences.put_before}
+use Rattle.rls_access.specs.rls_guard.specs.rls_source.specs.{Sequences.each_or_refused, Sequences.put_before}
 use Rattle.rls_statement.specs.{declared.statement.GrantRoles.GrantRoles, declared.statement.MembershipOption.MembershipOption, declared.statement.MembershipOptions.MembershipOptions, declared.statement.RevokeRoles.RevokeRoles}
-use Rattle.rls_guard.specs.rls_role.specs.{Granting.membership_with, Revoking.without}
+use Rattle.rls_access.specs.rls_guard.specs.rls_role.specs.{Granting.membership_with, Revoking.without}
 use Rattle.rls_meaning.specs.{Naming.provided, Naming.roles_in}
 
 -- each has to be a role that the current one may grant: it is a superuser, or has the privileges of one with ADMIN on it

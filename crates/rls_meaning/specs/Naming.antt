@@ -5,8 +5,8 @@ use Rattle.rls_value.specs.{declared.refusal.Refusal.Refusal, declared.refusal.R
 use Rattle.rls_value.specs.declared.refusal.NameKind.TheVariants as kind
 use Rattle.rls_expr.specs.{declared.policy.Grantee.Grantee, declared.policy.Grantee.TheVariants.Public, declared.policy.Grantee.TheVariants.Role, declared.table.TableDef.TableDef, Naming.Step, Naming.Look, Naming.Enter, Naming.Leave, Scopes.InScope, Scopes.var_in, Terms.qualifier_of}
 use Rattle.rls_catalog.specs.{declared.role.RoleDef.RoleDef, State.State, State.role_of, State.table_of}
-use Rattle.rls_guard.specs.rls_source.specs.Named.{found_or}
-use Rattle.rls_guard.specs.Naming.{there_or_undefined}
+use Rattle.rls_access.specs.rls_guard.specs.rls_source.specs.Named.{found_or}
+use Rattle.rls_access.specs.rls_guard.specs.Naming.{there_or_undefined}
 
 -- it has to hold, else this is the refusal
 abbrev pub provided : Bool → Refusal → Result (Unit {0}) Refusal

@@ -8,8 +8,8 @@ use Rattle.rls_expr.specs.{declared.expr.FromItem.FromItem, Selecting.names_wher
 use Rattle.rls_expr.specs.declared.expr.Selects.TheVariants as s
 use Rattle.rls_expr.specs.Terms.{Term, Terms, Query, Column, Var, Compare, And, Or, Not, IsNull, IsNotNull, InList, NotInList, Exists, InSubquery, NotInSubquery, Scalar, Sum, End, More, Select, qualifier_of}
 use Rattle.rls_catalog.specs.State.{State, table_of}
-use Rattle.rls_guard.specs.rls_source.specs.Sequences.{each_or_refused}
-use Rattle.rls_guard.specs.{Naming.there_or_undefined, Support.is_pinned}
+use Rattle.rls_access.specs.rls_guard.specs.rls_source.specs.Sequences.{each_or_refused}
+use Rattle.rls_access.specs.rls_guard.specs.{Naming.there_or_undefined, Support.is_pinned}
 use Rattle.rls_meaning.specs.Naming.{table_in}
 
 -- a column, a sum or a scalar subquery; a subquery of each kind, by its table and what it selects; each behind the tables of

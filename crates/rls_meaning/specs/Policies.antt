@@ -9,7 +9,7 @@ use Rattle.rls_expr.specs.{Terms.Term, Scopes.InScope}
 use Rattle.rls_catalog.specs.{State.State, State.policies_of, PolicyLists.has_policy, PolicyLists.is_named, PolicyLists.with_policy, PolicyLists.without_policy}
 use Rattle.rls_catalog.specs.declared.change.Change.TheVariants as change
 use Rattle.rls_statement.specs.{declared.statement.AlterPolicy.AlterPolicy, declared.statement.CreatePolicy.CreatePolicy, declared.statement.DropPolicy.DropPolicy}
-use Rattle.rls_guard.specs.{declared.effect.Effect.Effect, Effects.writes}
+use Rattle.rls_access.specs.rls_guard.specs.{declared.effect.Effect.Effect, Effects.writes}
 use Rattle.rls_access.specs.rls_ddl.specs.{AlteringPolicies.has_no_place_for, AlteringPolicies.altered, NamedPolicies.policy_or_undefined}
 use Rattle.rls_meaning.specs.{Analysing.checked, Analysing.of_condition, Naming.grantees_in, Naming.provided, Naming.table_in, Tables.owner_in, Resolving.resolved, Parts.names_in}
 

@@ -6,9 +6,9 @@ use Rattle.rls_value.specs.{declared.refusal.Refusal.Refusal, declared.refusal.R
 use Rattle.rls_expr.specs.declared.table.TableDef.{TableDef}
 use Rattle.rls_catalog.specs.declared.change.Change.TheVariants as change
 use Rattle.rls_catalog.specs.{declared.change.Change.Change, declared.grant.Grant.Grant, GrantOptions.grantor_of, GrantOptions.not_grantable, State.State, State.grants_of}
-use Rattle.rls_guard.specs.rls_source.specs.{Named.found_or, Sequences.each_of, Sequences.each_or_refused}
+use Rattle.rls_access.specs.rls_guard.specs.rls_source.specs.{Named.found_or, Sequences.each_of, Sequences.each_or_refused}
 use Rattle.rls_statement.specs.{declared.statement.GrantPrivileges.GrantPrivileges, declared.privileges.Privileges.Privileges, declared.statement.RevokePrivileges.RevokePrivileges, Extents.extent_of, Extents.granted_on, Extents.has_columns, Extents.is_named}
-use Rattle.rls_guard.specs.rls_grant.specs.{declared.grantors.Grantor.Grantor, Columns.column_place, Grantors.all_privileges, Holders.holders_of}
+use Rattle.rls_access.specs.rls_guard.specs.rls_grant.specs.{declared.grantors.Grantor.Grantor, Columns.column_place, Grantors.all_privileges, Holders.holders_of}
 use Rattle.rls_meaning.specs.{Analysing.place_in, Grants.is_taken, Grants.left_in, Grants.option_in, Grants.put_grant, Naming.grantees_in, Naming.provided, Naming.table_in}
 
 -- the columns that are named have to be there: SELECT's, INSERT's, UPDATE's

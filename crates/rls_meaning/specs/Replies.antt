@@ -5,10 +5,10 @@ use Rattle.rls_catalog.specs.{declared.change.Change.Change, declared.stored.Key
 use Rattle.rls_catalog.specs.declared.change.Change.TheVariants as change
 use Rattle.rls_statement.specs.declared.statement.Selected.{Selected}
 use Rattle.rls_statement.specs.declared.statement.Selected.TheVariants.{All, Items, Count}
-use Rattle.rls_guard.specs.rls_evaluation.specs.Environments.{over}
-use Rattle.rls_guard.specs.{declared.effect.Effect.Effect, declared.reply.Decision.Decision, declared.reply.Reply.Reply}
-use Rattle.rls_guard.specs.declared.effect.Effect.TheVariants as effect
-use Rattle.rls_guard.specs.declared.reply.Reply.TheVariants as reply
+use Rattle.rls_access.specs.rls_guard.specs.rls_evaluation.specs.Environments.{over}
+use Rattle.rls_access.specs.rls_guard.specs.{declared.effect.Effect.Effect, declared.reply.Decision.Decision, declared.reply.Reply.Reply}
+use Rattle.rls_access.specs.rls_guard.specs.declared.effect.Effect.TheVariants as effect
+use Rattle.rls_access.specs.rls_guard.specs.declared.reply.Reply.TheVariants as reply
 use Rattle.rls_access.specs.rls_dml.specs.Listings.{listing}
 use Rattle.rls_meaning.specs.Evaluating.{no_rows, value}
 

@@ -8,7 +8,7 @@ use Rattle.rls_catalog.specs.{State.State, State.role_of, Membership.attributes_
 use Rattle.rls_catalog.specs.declared.change.Change.TheVariants as change
 use Rattle.rls_statement.specs.{declared.statement.AlterRole.AlterRole, declared.statement.CreateRole.CreateRole, declared.statement.SetRole.SetRole}
 use Rattle.rls_statement.specs.declared.statement.SetRole.TheVariants as set
-use Rattle.rls_guard.specs.{declared.context.Ctx.Ctx, declared.effect.Effect.Effect, Effects.writes}
+use Rattle.rls_access.specs.rls_guard.specs.{declared.context.Ctx.Ctx, declared.effect.Effect.Effect, Effects.writes}
 use Rattle.rls_access.specs.rls_ddl.specs.{AlteringRoles.role_altered, CreatingRoles.role_with, SettingRoles.sets}
 use Rattle.rls_meaning.specs.Naming.{provided, role_in}
 

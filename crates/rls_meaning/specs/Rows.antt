@@ -7,8 +7,8 @@ use Rattle.rls_value.specs.declared.verb.Kind.TheVariants as k
 use Rattle.rls_expr.specs.Terms.{Term, maybe_term}
 use Rattle.rls_catalog.specs.{declared.stored.Stored.Stored, declared.verdict.Side.Side, declared.verdict.Verdict.Verdict, State.State}
 use Rattle.rls_catalog.specs.declared.verdict.Side.TheVariants as side
-use Rattle.rls_guard.specs.rls_evaluation.specs.{Environments.over, Showing.allows}
-use Rattle.rls_guard.specs.declared.reply.Decision.{Decision}
+use Rattle.rls_access.specs.rls_guard.specs.rls_evaluation.specs.{Environments.over, Showing.allows}
+use Rattle.rls_access.specs.rls_guard.specs.declared.reply.Decision.{Decision}
 use Rattle.rls_access.specs.rls_judging.specs.ScannedRows.{pinned_key}
 use Rattle.rls_meaning.specs.{Commands.Command, Commands.depth_of, Commands.reads, Evaluating.Shown, Evaluating.is_met, Showing.rows_at_key, Showing.shows, Showing.verdict_in}
 

@@ -9,9 +9,9 @@ use Rattle.rls_catalog.specs.{State.State}
 use Rattle.rls_catalog.specs.declared.verdict.Side.TheVariants as side
 use Rattle.rls_statement.specs.{declared.statement.Select.Select}
 use Rattle.rls_statement.specs.declared.statement.Statement.TheVariants as statement
-use Rattle.rls_guard.specs.{declared.context.Ctx.Ctx, declared.effect.Effect.Effect, Effects.shown}
-use Rattle.rls_guard.specs.declared.effect.Effect.TheVariants as effect
-use Rattle.rls_guard.specs.declared.reply.Reply.TheVariants as reply
+use Rattle.rls_access.specs.rls_guard.specs.{declared.context.Ctx.Ctx, declared.effect.Effect.Effect, Effects.shown}
+use Rattle.rls_access.specs.rls_guard.specs.declared.effect.Effect.TheVariants as effect
+use Rattle.rls_access.specs.rls_guard.specs.declared.reply.Reply.TheVariants as reply
 use Rattle.rls_access.specs.rls_dml.specs.{declared.selecting.AnalysedSelect.AnalysedSelect}
 use Rattle.rls_access.specs.{Statements.effect_in, Statements.mode_or_refused}
 use Rattle.rls_meaning.specs.{Commands.Command, Commands.permitted_in, Naming.table_in, Replies.answered, Rows.decisions, Rows.qualifying, Rows.scanned, Analysing.checked, Analysing.columns_in, Analysing.items_of, Analysing.items_resolved, Analysing.of_both, Resolving.resolved, Parts.found_in, Parts.names_in}

@@ -9,7 +9,7 @@ use Rattle.rls_expr.specs.{declared.policy.Policy.Policy, declared.table.TableDe
 use Rattle.rls_catalog.specs.{declared.stored.Stored.Stored, declared.verdict.Side.Side, declared.verdict.Verdict.Verdict, State.State, State.rows_of, State.rows_with_key, State.table_of, Verdict.applying_of, Verdict.expression_of, Verdict.is_exempt, Verdict.verdict_of}
 use Rattle.rls_catalog.specs.declared.verdict.Side.TheVariants as side
 use Rattle.rls_catalog.specs.declared.verdict.Verdict.TheVariants as v
-use Rattle.rls_guard.specs.rls_evaluation.specs.{Environments.over, Showing.allows}
+use Rattle.rls_access.specs.rls_guard.specs.rls_evaluation.specs.{Environments.over, Showing.allows}
 use Rattle.rls_meaning.specs.{Evaluating.Shown, Evaluating.value, Resolving.resolved}
 
 -- what each of the policies that apply to the role says of a row of the table, for a type of command, as an old row or a new one: by

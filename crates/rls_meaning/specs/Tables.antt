@@ -6,10 +6,10 @@ use Rattle.rls_value.specs.declared.refusal.Why.TheVariants as why
 use Rattle.rls_expr.specs.{declared.policy.Grantee.TheVariants.Role, declared.table.Column.Column, declared.table.TableDef.TableDef}
 use Rattle.rls_catalog.specs.{declared.grant.Grant.Grant, State.State, State.grants_of, State.table_of, Membership.has_privileges_of}
 use Rattle.rls_catalog.specs.declared.change.Change.TheVariants as change
-use Rattle.rls_guard.specs.rls_source.specs.Sequences.{each_of}
+use Rattle.rls_access.specs.rls_guard.specs.rls_source.specs.Sequences.{each_of}
 use Rattle.rls_statement.specs.{declared.statement.AlterTable.AlterTable, declared.statement.CreateTable.CreateTable}
-use Rattle.rls_guard.specs.{declared.effect.Effect.Effect, Effects.writes}
-use Rattle.rls_guard.specs.rls_grant.specs.Grantors.{all_privileges}
+use Rattle.rls_access.specs.rls_guard.specs.{declared.effect.Effect.Effect, Effects.writes}
+use Rattle.rls_access.specs.rls_guard.specs.rls_grant.specs.Grantors.{all_privileges}
 use Rattle.rls_access.specs.rls_ddl.specs.AlteringTables.{altered}
 use Rattle.rls_meaning.specs.{Analysing.place_in, Grants.put_grant, Naming.provided, Naming.table_in}
 

@@ -6,13 +6,13 @@ ghost use Rattle.rls_value.specs.{Names.one_of, declared.verb.Privilege.Privileg
 ghost use Rattle.rls_catalog.specs.{declared.grant.Grant.Grant, State.State, HasPrivileges.HasPrivilegesOf, Membership.has_privileges_of, Privileges.AreOptions};
 ghost use Rattle.rls_catalog.specs.Paths.{IsMember, MayGrant, MaySet, can_set, closes_circle, may_grant};
 ghost use Rattle.rls_catalog.specs.GrantOptions.{GoesBack, HasDependents, LeftAfterRevoke};
-ghost use Rattle.rls_guard.specs.rls_grant.specs.{Granting.goes_back, Holders.holders_of, Revoking.stays};
+ghost use Rattle.rls_access.specs.rls_guard.specs.rls_grant.specs.{Granting.goes_back, Holders.holders_of, Revoking.stays};
 ghost use Rattle.rls_meaning.specs.{Commands.Command, Needing.ListedIsNeeded, Expanding.IsExpanded};
 ghost use Rattle.rls_meaning.specs.{Deleting.DeleteMeans, Inserting.InsertMeans, Meaning.StatementMeans, Selecting.SelectMeans, Updating.UpdateMeans};
 
+use rls_access::rls_guard::rls_grant::grantor_means;
+use rls_access::rls_guard::rls_role::memberships_mean;
 use rls_depth::{policy_expansion_means, role_means};
-use rls_guard::rls_grant::grantor_means;
-use rls_guard::rls_role::memberships_mean;
 use rls_recursion::search_means;
 
 /// What a statement comes to is what it means, in every state and context.

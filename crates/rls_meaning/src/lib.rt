@@ -8,6 +8,6 @@ pub use laws::{
     statement_means, update_means,
 };
 pub use rls_access;
+pub use rls_access::rls_guard;
 pub use rls_depth;
 pub use rls_depth::rls_expansion;
-pub use rls_guard;

@@ -4,3 +4,4 @@ pub mod ExprForms
 pub mod StatementForms
 pub mod ReadBack
 pub mod CommandForms
+pub mod Escaped

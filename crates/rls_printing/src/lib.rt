@@ -3,6 +3,7 @@
 
 mod buffer;
 mod commands;
+mod escaping;
 mod expression;
 mod laws;
 mod lists;
@@ -13,6 +14,7 @@ mod statements;
 mod words;
 
 pub use commands::print_command;
+pub use escaping::push_escaped_line;
 pub use laws::{
     printed_within, printed_words, read_again, spelled_exprs, spelled_statements, written_exprs,
     written_statements,

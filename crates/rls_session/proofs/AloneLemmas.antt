@@ -9,12 +9,12 @@ use Rattle.std.proofs.lemmas.List.Elements.{All-head, All-tail}
 use Rattle.std.proofs.lemmas.Option.{slice_get_within, slice_get-get_or}
 use Rattle.std.proofs.lemmas.Bool.{cases_lt, cases_eq, cases_Bool}
 use Rattle.std.proofs.lemmas.Slice.Eq.{bytes_eq-Decides}
-use Rattle.rls_engine.specs.rls_core.specs.rls_guard.specs.rls_catalog.specs.State.{State}
-use Rattle.rls_engine.specs.rls_core.specs.rls_guard.specs.rls_catalog.specs.Changed.{opening}
+use Rattle.rls_engine.specs.rls_core.specs.rls_access.specs.rls_guard.specs.rls_catalog.specs.State.{State}
+use Rattle.rls_engine.specs.rls_core.specs.rls_access.specs.rls_guard.specs.rls_catalog.specs.Changed.{opening}
 use Rattle.rls_script.specs.rls_guard.specs.{declared.context.Mode.Mode, declared.effect.Effect.Effect}
 use Rattle.rls_value.specs.declared.refusal.Refusal.{Refusal}
 use Rattle.rls_statement.specs.declared.statement.Statement.{Statement}
-use Rattle.rls_engine.specs.rls_access.specs.Transactions.{first_ctx}
+use Rattle.rls_engine.specs.rls_core.specs.rls_access.specs.Transactions.{first_ctx}
 use Rattle.rls_history.specs.History.{History, before, concurrent, rw as edge}
 use Rattle.rls_history.specs.Orders.{precedes, with_placed, none_placed, IsNext, StandInTurn, placed_by, IsOrder}
 use Rattle.rls_engine.specs.rls_conflict.specs.Transactions.{Transaction, at}

@@ -5,7 +5,7 @@ use Rattle.rls_statement.specs.declared.statement.Statement.{Statement}
 use Rattle.rls_statement.specs.contracts.statement.Statement as statement
 use Rattle.rls_script.specs.rls_guard.specs.declared.effect.Effect.{Effect}
 use Rattle.rls_script.specs.rls_guard.specs.contracts.effect.Effect as effect
-use Rattle.rls_engine.specs.rls_access.specs.Transactions.{Begin}
+use Rattle.rls_engine.specs.rls_core.specs.rls_access.specs.Transactions.{Begin}
 use Rattle.rls_engine.specs.rls_core.specs.Records.{Record}
 use Rattle.rls_engine.specs.rls_core.specs.Codes.{begin_code}
 

@@ -11,7 +11,7 @@ use Rattle.rls_script.specs.declared.answer.Answer.TheVariants as a
 use Rattle.rls_script.specs.declared.line.Line.{Line}
 use Rattle.rls_script.specs.declared.line.Line.TheVariants as l
 use Rattle.rls_session.specs.Books.{AreTheRecords}
-use Rattle.rls_engine.specs.rls_core.specs.rls_guard.specs.rls_catalog.specs.Changed.{opening}
+use Rattle.rls_engine.specs.rls_core.specs.rls_access.specs.rls_guard.specs.rls_catalog.specs.Changed.{opening}
 use Rattle.rls_session.specs.Parts.{Notes}
 use Rattle.rls_session.specs.Alone.{AreAlone, HasOneLabel}
 use Rattle.rls_session.specs.Labels.{Entry, Script, opening_script, AnswersUnder}

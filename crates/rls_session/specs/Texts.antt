@@ -1,7 +1,7 @@
 -- What is written for a script that is run in phases, and the transactions that this shows as committed.
 use Rattle.std.specs.Prelude.{◌≡◌, ℕ, Bool, List, ◌++◌}
 use Rattle.std.specs.Str.Lines.{lines}
-use Rattle.rls_engine.specs.rls_core.specs.rls_guard.specs.rls_catalog.specs.Changed.{opening}
+use Rattle.rls_engine.specs.rls_core.specs.rls_access.specs.rls_guard.specs.rls_catalog.specs.Changed.{opening}
 use Rattle.rls_engine.specs.rls_core.specs.Records.{Record}
 use Rattle.rls_script.specs.Streams.{GrewBy}
 use Rattle.rls_script.specs.Plans.{Plan, ReadsLines, opening_plan, phases_of}

@@ -1,11 +1,11 @@
 -- Numbers that differ, of which those before a place are gone.
-use Rattle.std.specs.Prelude.{◌≡◌, ◌<◌, ◌≤◌, ◌+◌, refl, ℕ, zero, suc, List, [], ◌∷◌, ◌++◌, Bool, true, false, not, ◌||◌, nat_eq, if◌then◌else◌, Some, get_or, length, drop, insert, remove, position, slice_get}
+use Rattle.std.specs.Prelude.{◌≡◌, ◌<◌, ◌≤◌, ◌+◌, refl, ℕ, zero, suc, List, [], ◌∷◌, ◌++◌, Bool, true, false, not, ◌||◌, nat_eq, nat_le, if◌then◌else◌, Some, get_or, length, drop, insert, remove, position, slice_get}
 use Rattle.std.specs.List.{IsDistinct}
 use Rattle.std.specs.Option.{option_map_or}
 use Rattle.indexmap.specs.IndexMap.{move_index}
 use Rattle.indexmap.specs.IndexSet.{insert_key}
-use Rattle.std.proofs.Common.{ap, sym, ◌∙◌, arith}
-use Rattle.std.proofs.lemmas.Bool.{true≢false, or_left, or_right}
+use Rattle.std.proofs.Common.{ap, sym, ◌∙◌, inl, inr, arith}
+use Rattle.std.proofs.lemmas.Bool.{true≢false, or_left, or_right, cases_lt, lt-leb, le-leb}
 use Rattle.std.proofs.lemmas.List.{drop-append-le, drop_all, length-drop}
 use Rattle.std.proofs.lemmas.List.Edits.{length-insert, length-remove}
 use Rattle.std.proofs.lemmas.List.Quantifiers.{position-Some}
@@ -77,6 +77,13 @@ gone_absent (suc gone) [] i x distinct is before = refl
 gone_absent (suc gone) (y ∷ xs) zero x distinct is before = still_absent gone xs x (ap (is_number_in xs) (sym (same_some y x is)) ∙ apart_none y xs distinct.0)
 gone_absent (suc gone) (y ∷ xs) (suc i) x distinct is before = gone_absent gone xs i x distinct.1 is (omega arith)
 
+-- who isn't gone is among them
+still_met : (gone : ℕ) (xs : List ℕ) (i x : ℕ) → slice_get xs i ≡ Some x → gone ≤ i → is_number_in (drop gone xs) x ≡ true
+still_met zero xs i x is behind = met_at xs i x is
+still_met (suc gone) [] i x is behind = cc
+still_met (suc gone) (y ∷ xs) zero x is behind = absurd (omega arith)
+still_met (suc gone) (y ∷ xs) (suc i) x is behind = still_met gone xs i x is (omega arith)
+
 -- ---- one is moved
 
 -- what stands behind one that was put in is what stood there
@@ -121,6 +128,13 @@ found_at : (xs : List ℕ) (i x : ℕ) → position (nat_eq x) xs ≡ Some i →
 found_at xs i x is =
     let there = position-Some (nat_eq x) xs i 0 is in
     slice_get-get_or xs i 0 there.0 ∙ ap Some (sym (same_number x (get_or xs i 0) there.1))
+
+-- who is at a place is among those that are left where it isn't before them
+pub left_at : (gone : ℕ) (xs : List ℕ) (i x : ℕ) → IsDistinct nat_eq xs → position (nat_eq x) xs ≡ Some i → nat_le gone i ≡ is_number_in (drop gone xs) x
+left_at gone xs i x distinct is = elim (cases_lt i gone) [
+  | inl before ↦ lt-leb gone i before ∙ sym (gone_absent gone xs i x distinct (found_at xs i x is) before)
+  | inr behind ↦ le-leb gone i behind ∙ sym (still_met gone xs i x (found_at xs i x is) behind)
+]
 
 -- who is gone is taken out
 pub gone_already : (gone : ℕ) (xs : List ℕ) (i x : ℕ) → IsDistinct nat_eq xs → position (nat_eq x) xs ≡ Some i → i < gone → drop gone xs ≡ without (drop gone xs) x

@@ -160,6 +160,17 @@ impl Holders {
         }
     }
 
+    /// Whether the transaction is one of them.
+    pub(crate) fn contains(&self, txn: u64) -> bool
+        ensures { result ≡ is_number_in self.now.txns txn }
+    {
+        match &self.txns {
+            Txns::Nobody => false,
+            Txns::One(only) => txn == *only,
+            Txns::More(queue) => queue.contains(txn),
+        }
+    }
+
     /// The transactions, in that order.
     pub(crate) fn as_slice(&self) -> &[u64]
         ensures { result.now ≡ self.now.txns }

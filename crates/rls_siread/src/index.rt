@@ -6,7 +6,7 @@ ghost use Rattle.std.specs.Map.{lookup};
 ghost use Rattle.rls_value.specs.declared.object.Object.{Object as Read};
 ghost use Rattle.rls_value.specs.Objects.{object_order};
 ghost use Rattle.rls_source.specs.Footprints.{is_object, is_among};
-ghost use Rattle.rls_siread.specs.Locks.{arrived, without};
+ghost use Rattle.rls_siread.specs.Locks.{is_number_in, arrived, without};
 ghost use Rattle.rls_siread.specs.Index.{shown, held_at, is_ready, KeepsReady};
 
 use crate::holders::Holders;
@@ -77,6 +77,17 @@ impl Index {
         match self.holders.get(object) {
             Some(held) => held.as_slice(),
             None => &[],
+        }
+    }
+
+    /// Whether the transaction holds the object.
+    pub(crate) fn holds(&self, txn: u64, object: &Object) -> bool
+        ensures { result ≡ is_number_in (held_at self.now.holders.entries object.now) txn }
+    {
+        let _in_order = self.holders.len();
+        match self.holders.get(object) {
+            Some(held) => held.contains(txn),
+            None => false,
         }
     }
 

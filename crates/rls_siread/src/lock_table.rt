@@ -3,7 +3,7 @@
 ghost use Rattle.std.specs.Prelude.{◌≡◌, [], true, if◌then◌else◌, OnOk};
 ghost use Rattle.rls_value.specs.declared.object.Object.{Object as Read};
 ghost use Rattle.rls_source.specs.Footprints.{is_among};
-ghost use Rattle.rls_siread.specs.Locks.{arrived, without};
+ghost use Rattle.rls_siread.specs.Locks.{is_number_in, arrived, without};
 ghost use Rattle.rls_siread.specs.Index.{shown, held_at, is_ready};
 
 use crate::index::Index;
@@ -46,6 +46,13 @@ impl LockTable {
         ensures { result.now ≡ held_at self.now object.now }
     {
         self.index.held(object)
+    }
+
+    /// Whether the transaction holds the object. It doesn't go through the others that do.
+    pub fn holds(&self, txn: u64, object: &Object) -> bool
+        ensures { result ≡ is_number_in (held_at self.now object.now) txn }
+    {
+        self.index.holds(txn, object)
     }
 
     /// Makes room for the transaction under each of the objects. Nobody holds more or less.

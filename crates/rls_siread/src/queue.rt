@@ -77,12 +77,30 @@ impl Queue {
         self.gone == self.set.len()
     }
 
+    /// Whether the number is one of them, in time that doesn't grow with theirs.
+    pub(crate) fn contains(&self, txn: u64) -> bool
+        ensures { result ≡ is_number_in self.now.txns txn }
+    {
+        is_behind(&self.set, self.gone, txn)
+    }
+
     /// The numbers, in order of arrival.
     pub(crate) fn as_slice(&self) -> &[u64]
         ensures txns { result.now ≡ self.now.txns }
         ensures distinct { IsDistinct nat_eq result.now }
     {
         &self.set.as_slice()[self.gone..]
+    }
+}
+
+/// Whether the number is one of those that aren't gone.
+fn is_behind(set: &IndexSet<u64>, gone: usize, txn: u64) -> bool
+    ensures { result ≡ is_number_in (drop gone set.now.keys) txn }
+{
+    let _distinct = set.len();
+    match set.get_index_of(&txn) {
+        Some(place) => gone <= place,
+        None => false,
     }
 }
 

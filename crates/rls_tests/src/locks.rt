@@ -198,9 +198,9 @@ fn hold(
     objects: &Footprint,
 ) -> Result<bool, AllocError> {
     table.make_room(alloc, 7, objects)?;
-    let nobody = table.held(object).is_empty();
+    let nobody = table.held(object).is_empty() && !table.holds(7, object);
     table.hold_all(7, objects);
-    let held = table.held(object) == [7].as_slice();
+    let held = table.held(object) == [7].as_slice() && table.holds(7, object);
     table.release_all(7, objects);
     Ok(nobody && held && table.held(object).is_empty())
 }

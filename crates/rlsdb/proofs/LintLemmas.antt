@@ -3,12 +3,12 @@ use Rattle.std.proofs.Common.{◌≡◌, refl, ◌++◌, ◌∷◌, [], ◌+◌,
 use Rattle.std.specs.Prelude.{if◌then◌else◌, nat_eq, ◌↔◌}
 use Rattle.std.specs.List.{list_any}
 use Rattle.std.proofs.lemmas.Bool.{false≢true}
-use Rattle.rls_laws.specs.rls_check.specs.rls_meaning.specs.rls_guard.specs.{declared.context.Ctx.Ctx, Effects.changes_of}
-use Rattle.rls_laws.specs.rls_check.specs.rls_meaning.specs.rls_guard.specs.rls_catalog.specs.Changed.{changed_all, opening}
-use Rattle.rls_laws.specs.rls_check.specs.rls_meaning.specs.rls_guard.specs.rls_catalog.specs.State.{State}
+use Rattle.rls_laws.specs.rls_check.specs.rls_meaning.specs.rls_access.specs.rls_guard.specs.{declared.context.Ctx.Ctx, Effects.changes_of}
+use Rattle.rls_laws.specs.rls_check.specs.rls_meaning.specs.rls_access.specs.rls_guard.specs.rls_catalog.specs.Changed.{changed_all, opening}
+use Rattle.rls_laws.specs.rls_check.specs.rls_meaning.specs.rls_access.specs.rls_guard.specs.rls_catalog.specs.State.{State}
 use Rattle.rls_laws.specs.rls_check.specs.rls_audit.specs.rls_core.specs.Alone.{state_alone}
 use Rattle.rls_laws.specs.rls_check.specs.rls_meaning.specs.Meaning.{effect_of}
-use Rattle.rls_laws.specs.rls_check.specs.rls_access.specs.Transactions.{ctx_after}
+use Rattle.rls_laws.specs.rls_check.specs.rls_audit.specs.rls_core.specs.rls_access.specs.Transactions.{ctx_after}
 use Rattle.rls_laws.specs.rls_check.specs.declared.audit.Audit.{Audit}
 use Rattle.rls_laws.specs.rls_check.specs.declared.finding.Finding.{Finding}
 use Rattle.rls_laws.specs.rls_check.specs.declared.finding.Finding.TheVariants as f

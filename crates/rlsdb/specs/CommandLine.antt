@@ -2,7 +2,7 @@
 use Rattle.std.specs.Prelude.{◌≡◌, ◌^◌, ℕ, Bool, true, false, List, [], Option, Some, None, map, option_map, unwrap_or, codes}
 use Rattle.std.specs.List.{AllZip}
 use Rattle.std.specs.Str.Parse.{digits_value}
-use Rattle.rls_laws.specs.rls_check.specs.rls_meaning.specs.rls_guard.specs.rls_catalog.specs.rls_value.specs.{declared.row.RowId.RowId, Names.folded, Names.spells_name}
+use Rattle.rls_laws.specs.rls_check.specs.rls_meaning.specs.rls_access.specs.rls_guard.specs.rls_catalog.specs.rls_value.specs.{declared.row.RowId.RowId, Names.folded, Names.spells_name}
 use Rattle.rls_laws.specs.rls_check.specs.declared.filtering.ShownFilter.{ShownFilter}
 use Rattle.clap.specs.Words.{App, Row, Rule, Shape, Text, all_of, first_of, kind_of, new_app, new_rule, one_of, subcommand_of, takes, with_rule, with_subcommand}
 use Rattle.clap.specs.Simple.{on_top}

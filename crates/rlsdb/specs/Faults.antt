@@ -2,8 +2,8 @@
 use Rattle.std.specs.Prelude.{◌≡◌, ◌⊎◌, ℕ, List, Bool, true, false, Option, Some, None, Result, Ok, Err}
 use Rattle.std.specs.Borrow.{Bor}
 use Rattle.std.specs.declared.io.Error.{Error}
-use Rattle.rls_laws.specs.rls_check.specs.rls_meaning.specs.rls_guard.specs.rls_catalog.specs.rls_value.specs.declared.refusal.Refusal.{Refusal}
-use Rattle.rls_laws.specs.rls_check.specs.rls_meaning.specs.rls_guard.specs.rls_catalog.specs.rls_value.specs.declared.refusal.Refusal.TheVariants as r
+use Rattle.rls_laws.specs.rls_check.specs.rls_meaning.specs.rls_access.specs.rls_guard.specs.rls_catalog.specs.rls_value.specs.declared.refusal.Refusal.{Refusal}
+use Rattle.rls_laws.specs.rls_check.specs.rls_meaning.specs.rls_access.specs.rls_guard.specs.rls_catalog.specs.rls_value.specs.declared.refusal.Refusal.TheVariants as r
 use Rattle.rls_session.specs.rls_script.specs.declared.fault.RunFault.TheVariants as run
 use Rattle.rlsdb.specs.declared.fault.Fault.{Fault}
 use Rattle.rlsdb.specs.declared.fault.Fault.TheVariants as fault

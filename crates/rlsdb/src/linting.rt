@@ -3,9 +3,9 @@
 ghost use Rattle.std.specs.Prelude.{◌≡◌, ◌++◌, ℕ, List, nat_eq, option_map, IfOk, OnOk};
 ghost use Rattle.std.specs.List.{flat_map, list_any};
 ghost use Rattle.rls_laws.specs.rls_check.specs.Walking.{left, state_left};
-ghost use Rattle.rls_laws.specs.rls_check.specs.rls_meaning.specs.rls_guard.specs.Effects.{changes_of};
-ghost use Rattle.rls_laws.specs.rls_check.specs.rls_meaning.specs.rls_guard.specs.rls_catalog.specs.Changed.{changed_all, opening};
-ghost use Rattle.rls_laws.specs.rls_check.specs.rls_meaning.specs.rls_guard.specs.rls_catalog.specs.State.{State as Whole};
+ghost use Rattle.rls_laws.specs.rls_check.specs.rls_meaning.specs.rls_access.specs.rls_guard.specs.Effects.{changes_of};
+ghost use Rattle.rls_laws.specs.rls_check.specs.rls_meaning.specs.rls_access.specs.rls_guard.specs.rls_catalog.specs.Changed.{changed_all, opening};
+ghost use Rattle.rls_laws.specs.rls_check.specs.rls_meaning.specs.rls_access.specs.rls_guard.specs.rls_catalog.specs.State.{State as Whole};
 ghost use Rattle.rls_lint.specs.Findings.{findings_of};
 ghost use Rattle.rls_lint.specs.Naming.{IsNamed};
 ghost use Rattle.rls_lint.specs.Texts as texts;

@@ -1,5 +1,5 @@
 use Rattle.std.proofs.Common.{◌≡◌, ◌<◌, true, List, [], ◌∷◌, length, refl, ◌∙◌, arith}
-use Rattle.rls_core.specs.rls_guard.specs.rls_catalog.specs.declared.change.Change.{Change}
+use Rattle.rls_core.specs.rls_access.specs.rls_guard.specs.rls_catalog.specs.declared.change.Change.{Change}
 use Rattle.rls_audit.specs.Ordered.{is_in_order}
 use Rattle.rls_audit.proofs.OrderLemmas.{ordered_stays}
 use Rattle.rls_audit.proofs.ordering.are_in_order.Goals as goal

@@ -1,7 +1,7 @@
 use Rattle.std.specs.Prelude.{◌≡◌}
 use Rattle.std.specs.List.{All}
 use Rattle.std.proofs.Common.{ap, sym, subst, ◌∙◌}
-use Rattle.rls_core.specs.rls_guard.specs.Effects.{changes_of}
+use Rattle.rls_core.specs.rls_access.specs.rls_guard.specs.Effects.{changes_of}
 use Rattle.rls_audit.specs.Lines.{in_object_order, ordered_changes}
 use Rattle.rls_audit.specs.Showing.{CanTell, CanShow}
 use Rattle.rls_audit.specs.ShownParts.{Adds}

@@ -1,5 +1,5 @@
 use Rattle.std.proofs.Common.{◌≡◌, map, drop}
-use Rattle.rls_explain.specs.rls_meaning.specs.rls_guard.specs.rls_source.specs.Footprints.{with_reads}
+use Rattle.rls_explain.specs.rls_meaning.specs.rls_access.specs.rls_guard.specs.rls_source.specs.Footprints.{with_reads}
 use Rattle.rls_check.specs.Checking.{wide_of}
 use Rattle.rls_check.proofs.agreeing.note_changed.Given as goal
 

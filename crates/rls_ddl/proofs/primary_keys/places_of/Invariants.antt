@@ -1,6 +1,6 @@
 use Rattle.std.proofs.Common.{◌≡◌}
-use Rattle.rls_source.specs.Sequences.{each_of}
-use Rattle.rls_source.proofs.EachLemmas.{left}
+use Rattle.rls_guard.specs.rls_source.specs.Sequences.{each_of}
+use Rattle.rls_guard.specs.rls_source.proofs.EachLemmas.{left}
 use Rattle.rls_ddl.specs.CreatingTables.{place_or_undefined}
 use Rattle.rls_ddl.proofs.primary_keys.places_of.Given as goal
 

@@ -1,6 +1,6 @@
 use Rattle.std.proofs.Common.{◌≡◌, ◌++◌, drop, map}
 use Rattle.rls_expr.specs.{Scopes.in_scope, Resolving.resolved}
-use Rattle.rls_meaning.specs.rls_guard.specs.Naming.{names_over}
+use Rattle.rls_meaning.specs.rls_access.specs.rls_guard.specs.Naming.{names_over}
 use Rattle.rls_explain.proofs.resolving.values_over.Given as goal
 
 -- the values so far, and those of the assignments that are left, are all

@@ -1,15 +1,15 @@
 use Rattle.std.proofs.Common.{arith, ◌≡◌, ◌+◌, ◌∷◌, drop}
 use Rattle.std.proofs.lemmas.Grind.{common_steps}
-use Rattle.rls_meaning.specs.rls_guard.specs.rls_catalog.specs.declared.stored.Stored.{Stored}
-use Rattle.rls_meaning.specs.rls_guard.specs.rls_evaluation.specs.{Eval.Shows, Showing.shows}
+use Rattle.rls_meaning.specs.rls_access.specs.rls_guard.specs.rls_catalog.specs.declared.stored.Stored.{Stored}
+use Rattle.rls_meaning.specs.rls_access.specs.rls_guard.specs.rls_evaluation.specs.{Eval.Shows, Showing.shows}
 use Rattle.rls_explain.specs.{FoundOutcomes.changed_by, FoundOutcomes.fate_found, FoundOutcomes.version_found, Outcomes.scanned_as}
 use Rattle.rls_explain.proofs.Lists.{put_on}
 use Rattle.rls_explain.proofs.update_outcomes.put_done.Goals as goal
 
 -- one row more is told of
 pub loop-stored-preserved : goal.loop-stored-preserved
-loop-stored-preserved g c =
-    let s = g.S.RowSource.state c.args.source.now in
+loop-stored-preserved c =
+    let s = c.args.catalog.now in
     let context = c.args.context in
     let role = context.role.now in
     let sees : Shows = shows context.relations.now role in

@@ -1,5 +1,5 @@
 use Rattle.std.proofs.Common.{◌≡◌, length}
-use Rattle.rls_meaning.specs.rls_guard.specs.rls_evaluation.specs.{Holding.Holds, Scoping.env_of, Showing.shows}
+use Rattle.rls_meaning.specs.rls_access.specs.rls_guard.specs.rls_evaluation.specs.{Holding.Holds, Scoping.env_of, Showing.shows}
 use Rattle.rls_explain.specs.Found.{row_written}
 use Rattle.rls_explain.proofs.writing.write_row.Given as goal
 

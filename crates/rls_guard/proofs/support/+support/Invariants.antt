@@ -1,6 +1,6 @@
 use Rattle.std.proofs.Common.{◌≡◌, ◌+◌, ◌*◌, drop}
-use Rattle.rls_expr.specs.ExprTerms.{query_of}
-use Rattle.rls_expr.specs.Terms.{maybe_term, terms_of, term_size, terms_size, query_size}
+use Rattle.rls_evaluation.specs.rls_catalog.specs.rls_expr.specs.ExprTerms.{query_of}
+use Rattle.rls_evaluation.specs.rls_catalog.specs.rls_expr.specs.Terms.{maybe_term, terms_of, term_size, terms_size, query_size}
 use Rattle.rls_guard.specs.Support.{are_unsupported}
 use Rattle.rls_guard.proofs.support.+support.Given as goal
 

@@ -1,5 +1,5 @@
 use Rattle.std.proofs.Common.{◌≡◌, drop, is_some}
-use Rattle.rls_expr.specs.Terms.{terms_of}
+use Rattle.rls_evaluation.specs.rls_catalog.specs.rls_expr.specs.Terms.{terms_of}
 use Rattle.rls_evaluation.specs.Keys.{pin_among}
 use Rattle.rls_guard.specs.Support.{nowhere}
 use Rattle.rls_guard.proofs.support.pins_among.Given as goal

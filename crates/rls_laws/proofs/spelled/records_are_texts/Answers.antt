@@ -1,6 +1,6 @@
 use Rattle.std.proofs.lemmas.List.Elements.{All-from_recursion}
-use Rattle.rls_check.specs.rls_meaning.specs.rls_guard.specs.{Effects.changes_of}
-use Rattle.rls_check.specs.rls_access.specs.Statements.{effect_in}
+use Rattle.rls_check.specs.rls_meaning.specs.rls_access.specs.rls_guard.specs.{Effects.changes_of}
+use Rattle.rls_check.specs.rls_audit.specs.rls_core.specs.rls_access.specs.Statements.{effect_in}
 use Rattle.rls_check.specs.rls_audit.specs.Showing.{ArePoliciesSpellable}
 use Rattle.rls_laws.proofs.{Ending.effect_texts, ExplainedTexts.explained_texts, RecordedTexts.after_texts, RecordedTexts.posted_texts, SpelledPolicies.one_altered}
 use Rattle.rls_laws.proofs.spelled.records_are_texts.Goals as goal

@@ -1,4 +1,4 @@
-use Rattle.rls_guard.specs.RolePrivileges.{role_privileges_in}
+use Rattle.rls_access.specs.rls_guard.specs.RolePrivileges.{role_privileges_in}
 use Rattle.rls_meaning.specs.Commands.{depth_of, query_tables, reads}
 use Rattle.rls_meaning.proofs.Expanding.{expanded}
 use Rattle.rls_meaning.proofs.laws.expansion_means.Goals as goal

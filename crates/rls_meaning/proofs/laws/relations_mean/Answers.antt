@@ -1,5 +1,5 @@
 use Rattle.rls_catalog.proofs.{HasPrivilegesLaws.has_privileges_means, Reaching.can_set_is, Reaching.may_grant_is}
-use Rattle.rls_guard.specs.rls_grant.proofs.{GrantLaws.dependents_are, GrantLaws.goes_back_is, GrantLaws.left_is, HolderLaws.holders_are}
+use Rattle.rls_access.specs.rls_guard.specs.rls_grant.proofs.{GrantLaws.dependents_are, GrantLaws.goes_back_is, GrantLaws.left_is, HolderLaws.holders_are}
 use Rattle.rls_meaning.proofs.Relations.{circle_means}
 use Rattle.rls_meaning.proofs.laws.relations_mean.Goals as goal
 

@@ -2,8 +2,8 @@ use Rattle.std.proofs.Common.{◌≡◌, refl, subst, sym}
 use Rattle.std.specs.Prelude.{IfSome}
 use Rattle.rls_laws.specs.rls_check.specs.declared.walking.Turn.{Turn}
 use Rattle.rls_laws.specs.rls_check.specs.Walking.{IsNext, left, state_left}
-use Rattle.rls_laws.specs.rls_check.specs.rls_meaning.specs.rls_guard.specs.Effects.{changes_of}
-use Rattle.rls_laws.specs.rls_check.specs.rls_meaning.specs.rls_guard.specs.rls_catalog.specs.Changed.{changed_all}
+use Rattle.rls_laws.specs.rls_check.specs.rls_meaning.specs.rls_access.specs.rls_guard.specs.Effects.{changes_of}
+use Rattle.rls_laws.specs.rls_check.specs.rls_meaning.specs.rls_access.specs.rls_guard.specs.rls_catalog.specs.Changed.{changed_all}
 use Rattle.rlsdb.proofs.LintLemmas.{found_on, goes_on, leads_on, named_on, named_there, stops_in}
 use Rattle.rlsdb.proofs.linting.walk_to.Goals as goal
 

@@ -2,7 +2,7 @@ use Rattle.std.specs.Prelude.{◌+◌, ◌<◌, ◌≤◌, ℕ, None, length, ma
 use Rattle.std.proofs.Common.{ap, sym, ◌∙◌, arith}
 use Rattle.std.proofs.lemmas.List.{length-set}
 use Rattle.rls_catalog.specs.Changed.{changed_all}
-use Rattle.rls_explain.specs.rls_meaning.specs.rls_guard.specs.rls_source.specs.Footprints.{with_reads}
+use Rattle.rls_explain.specs.rls_meaning.specs.rls_access.specs.rls_guard.specs.rls_source.specs.Footprints.{with_reads}
 use Rattle.rls_check.specs.Checking.{wide_of}
 use Rattle.rls_check.proofs.CommittingLemmas.{one_more_on, stops, none_left}
 use Rattle.rls_check.proofs.committing.Committing.go_on.Goals as goal

@@ -1,13 +1,31 @@
-use Rattle.std.specs.Prelude.{◌≡◌, ℕ, Some}
+use Rattle.std.specs.Prelude.{◌≡◌, ℕ, List, Some}
 use Rattle.std.specs.Option.{option_copied}
 use Rattle.std.proofs.Common.{ap, sym, ◌∙◌, subst}
 use Rattle.rls_siread.specs.Covering.{covered_of}
 use Rattle.rls_conflict.specs.Begun.{at_number}
 use Rattle.rls_conflict.specs.Commits.{IsReady}
-use Rattle.rls_conflict.specs.Concurrent.{is_place_of_reader, is_place_of_writer}
+use Rattle.rls_conflict.specs.declared.committed.Committed.{Committed}
+use Rattle.rls_conflict.specs.Concurrent.{is_place_of_reader, is_place_of_writer, AreReadersTold, AreWritersTold}
 use Rattle.rls_conflict.specs.Known.{Known}
+use Rattle.rls_conflict.proofs.ReadLemmas.{readers_told, writers_told}
 use Rattle.rls_conflict.proofs.ReadyLemmas.{transaction_is, is_ready}
 use Rattle.rls_conflict.proofs.conflicts.Conflicts.prepared.Goals as goal
+
+pub writers_of-requires : goal.writers_of-requires
+writers_of-requires c =
+    let look : at_number c.args.txn c.self.inside.running.entries ≡ Some c.in-Some.it.now = sym c.get.ensures.value ∙ ap option_copied c.in-Some.is in
+    subst (λ (them : List Committed). AreWritersTold them c.self.inside.writers c.self.inside.sireads c.snap.result) (sym c.as_slice-committed.ensures.value)
+    (subst (λ (snap : ℕ). AreWritersTold c.self.inside.committed.items c.self.inside.writers c.self.inside.sireads snap) (sym c.snap.ensures)
+    (writers_told c.self.inside.committed.items c.self.inside.running.entries c.self.inside.sireads c.self.inside.writers c.self.inside.floor
+    c.self.invariant.entries c.self.invariant.indexed c.in-Some.it.now.snap (c.self.invariant.snaps c.args.txn c.in-Some.it.now look).0))
+
+pub readers_of-requires : goal.readers_of-requires
+readers_of-requires c =
+    let look : at_number c.args.txn c.self.inside.running.entries ≡ Some c.in-Some.it.now = sym c.get.ensures.value ∙ ap option_copied c.in-Some.is in
+    subst (λ (them : List Committed). AreReadersTold them c.self.inside.sireads c.snap-2.result) (sym c.as_slice-committed.ensures.value)
+    (subst (λ (snap : ℕ). AreReadersTold c.self.inside.committed.items c.self.inside.sireads snap) (sym c.snap-2.ensures)
+    (readers_told c.self.inside.committed.items c.self.inside.running.entries c.self.inside.sireads c.self.inside.writers c.self.inside.floor
+    c.self.invariant.entries c.self.invariant.indexed c.in-Some.it.now.snap (c.self.invariant.snaps c.args.txn c.in-Some.it.now look).0 c.stands.ensures))
 
 pub returns : goal.returns
 returns c =

@@ -3,7 +3,7 @@ use Rattle.std.specs.Option.{is_some}
 use Rattle.std.specs.Vec.{vec_capacity}
 use Rattle.rls_catalog.specs.SoundRows.{RowsAreSound}
 use Rattle.rls_catalog.specs.Changed.{changed_all}
-use Rattle.rls_meaning.specs.rls_guard.specs.Effects.{changes_of}
+use Rattle.rls_meaning.specs.rls_access.specs.rls_guard.specs.Effects.{changes_of}
 use Rattle.rls_meaning.specs.rls_dml.specs.NextRows.{InRange}
 use Rattle.rls_conflict.specs.Known.{Known, Becomes}
 use Rattle.rls_core.specs.Events.{Event, Running, seen_by}

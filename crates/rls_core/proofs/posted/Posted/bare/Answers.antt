@@ -1,5 +1,5 @@
 use Rattle.std.proofs.Common.{ap, ◌∙◌}
-use Rattle.rls_meaning.specs.rls_guard.specs.Effects.{changes_of}
+use Rattle.rls_meaning.specs.rls_access.specs.rls_guard.specs.Effects.{changes_of}
 use Rattle.rls_core.specs.Posted.{Posted, without_decisions}
 use Rattle.rls_core.proofs.PostedLemmas.{taken_out, same_changes}
 use Rattle.rls_core.proofs.posted.Posted.bare.Goals as goal
