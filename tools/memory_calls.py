@@ -9,7 +9,7 @@ import re
 from crates import TOP, libraries, read, root_of
 
 # The crates whose calls are promised, from the lowest up.
-CRATES = """shared_map rls_value rls_expr rls_text rls_hints rls_printing rls_catalog rls_source rls_overlay rls_agreement rls_role rls_grant
+CRATES = """shared_map rls_value rls_expr rls_text rls_hints rls_printing rls_catalog rls_source rls_agreement rls_role rls_grant
     rls_verdict rls_policy rls_access rls_explain rls_lint rls_rows rls_siread rls_conflict rls_core rls_engine rls_script rls_transcript rls_session
     rls_audit_lines rls_audit rls_check rls_command_line""".split()
 # The crates whose calls are parts of one of these: what they ask for is asked for there.
@@ -45,20 +45,20 @@ PARTS = {
     "resolve_columns": "NamedTable::copy NamedTable::new inside",
     "Catalog::new": "Name::postgres",
     "Catalog::rows": "SharedMap::runs",
-    "Overlay::new": "OwnChanges::new",
     "Footprint::note_all": "Footprint::from_reads Footprint::note Footprint::to_vec",
     "grant_member": """Delta::push Holdings::into_items Holdings::put Reads::note Reads::note_all SharedList::put
-        effective_roles_by note_walk noted_members noted_role reached require_roles role_named""",
+        Asker::members Asker::require_roles Asker::role Asker::role_named reached""",
     "revoke_member": "SharedList::remove",
-    "has": "effective_roles_of",
+    "has": "effective_roles_of effective_roles_over reaches",
     "option": "options",
     "grant": "Grants::put own_grants put_grants",
     "revoke": "Grants::remove",
     "missing": "is_granted missing_in",
     "applying": "chosen",
-    "run_statement": """Delta::from_slice Delta::with_capacity Reads::copy Reads::with_capacity SelectedTable::copy note_effective_roles
-        noted_effective_roles noted_grants noted_key noted_policies noted_scan noted_table put_all_names put_names put_names_if
-        put_selected put_shared_names put_step require_grantees table_named with_policy with_replaced without_policy""",
+    "run_statement": """Delta::from_slice Delta::with_capacity Reads::copy Reads::with_capacity SelectedTable::copy
+        Asker::by_key Asker::grants Asker::note_all Asker::policies Asker::require_grantees Asker::scan Asker::table
+        Asker::table_named Asker::with_capacity put_all_names put_names put_names_if put_selected put_shared_names put_step
+        with_policy with_replaced without_policy""",
     "Core::admit": "Core::admit_or_end",
     "Core::post": "Decisions::new Posted::new",
     "Core::order": "Conflicts::order",

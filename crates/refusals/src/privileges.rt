@@ -9,7 +9,7 @@ use rls_session::rls_core::rls_guard::rls_grant::{grant, holds, missing, option,
 use rls_session::rls_core::rls_guard::rls_policy::{applying, combine, is_exempt};
 use rls_session::rls_core::rls_guard::rls_role::rls_statement::Statement;
 use rls_session::rls_core::rls_guard::rls_role::{can_set, grant_member, has, revoke_member};
-use rls_session::rls_core::rls_guard::rls_source::{Plain, Reads};
+use rls_session::rls_core::rls_guard::rls_source::{Asker, Plain};
 use rls_session::rls_text::parse;
 use scenario::{Scenario, after, both, play};
 use std::alloc::Global;
@@ -233,14 +233,19 @@ impl Asking {
 
     /// What the statement changes.
     fn changes(&self, alloc: Global) -> Result<Delta, Refusal> {
-        let source = &mut Plain::new(&self.state);
-        let reads = &mut Reads::new(alloc);
+        let mut asker = Asker::new(alloc, &self.state);
+        let changes = self.changes_asked(&mut asker);
+        drop(asker);
+        changes
+    }
+
+    fn changes_asked(&self, asker: &mut Asker) -> Result<Delta, Refusal> {
         let role = &self.names.role;
         match &self.statement {
-            Statement::GrantRoles(roles) => grant_member(alloc, source, reads, role, roles),
-            Statement::RevokeRoles(roles) => revoke_member(alloc, source, reads, role, roles),
-            Statement::Grant(privileges) => grant(alloc, source, reads, role, privileges),
-            Statement::Revoke(privileges) => revoke(alloc, source, reads, role, privileges),
+            Statement::GrantRoles(roles) => grant_member(asker, role, roles),
+            Statement::RevokeRoles(roles) => revoke_member(asker, role, roles),
+            Statement::Grant(privileges) => grant(asker, role, privileges),
+            Statement::Revoke(privileges) => revoke(asker, role, privileges),
             _ => Err(Refusal::Foreign),
         }
     }

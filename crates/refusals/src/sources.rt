@@ -2,13 +2,10 @@
 
 use crate::opening::{GRANTS, apply, are_same_objects, everything, has_all, state_after};
 use rls_agreement::agrees_on;
-use rls_overlay::Overlay;
-use rls_session::rls_core::rls_guard::rls_catalog::rls_value::{
-    Items, Name, Object, Refusal, Row, Value,
-};
-use rls_session::rls_core::rls_guard::rls_catalog::{Catalog, Change, RoleDef};
+use rls_session::rls_core::rls_guard::rls_catalog::rls_value::{Name, Object, Refusal, Row, Value};
+use rls_session::rls_core::rls_guard::rls_catalog::{Catalog, Change, Delta, RoleDef};
 use rls_session::rls_core::rls_guard::rls_source::{
-    Footprint, Plain, Recording, RowSource, StatementSource,
+    Footprint, Overlay, Plain, Reading, Recording, RowSource, StatementSource,
 };
 use scenario::{Scenario, after, both, play, taken};
 use std::alloc::Global;
@@ -44,7 +41,7 @@ fn key(alloc: Global) -> Result<Row, Refusal> {
 #[derive(Drop)]
 struct Place {
     asked: Asked,
-    changes: Items<Change>,
+    changes: Delta,
     state: Catalog,
 }
 
@@ -61,13 +58,13 @@ impl Place {
 }
 
 /// A role more.
-fn changes(alloc: Global) -> Result<Items<Change>, Refusal> {
-    let mut changes = Items::new(alloc);
+fn changes(alloc: Global) -> Result<Delta, Refusal> {
+    let mut changes = Delta::new(alloc);
     let put = put_role(alloc, &mut changes);
     after(changes, put)
 }
 
-fn put_role(alloc: Global, changes: &mut Items<Change>) -> Result<(), Refusal> {
+fn put_role(alloc: Global, changes: &mut Delta) -> Result<(), Refusal> {
     changes.push(Change::Role(Name::new(alloc, "c")?, RoleDef::known(None)))?;
     Ok(())
 }
@@ -82,36 +79,28 @@ enum Ask {
     Policies,
     Scan,
     ByKey,
-    /// The rows of a look that isn't noted.
-    Look,
-    LookByKey,
     /// To mark one object as read, or those of a footprint.
     Mark,
     MarkAll,
-    /// A source of which nothing is read.
-    Unread,
 }
 
 /// Each look-up, as its trait names it.
-const ASKS: [(&str, Ask); 12] = [
-    ("RowSource::role", Ask::Role),
-    ("RowSource::members", Ask::Members),
-    ("RowSource::table", Ask::Table),
-    ("RowSource::grants", Ask::Grants),
-    ("RowSource::policies", Ask::Policies),
-    ("RowSource::scan", Ask::Scan),
-    ("RowSource::by_key", Ask::ByKey),
-    ("RowSource::look", Ask::Look),
-    ("RowSource::look_by_key", Ask::LookByKey),
+const ASKS: [(&str, Ask); 9] = [
+    ("Reading::role", Ask::Role),
+    ("Reading::members", Ask::Members),
+    ("Reading::table", Ask::Table),
+    ("Reading::grants", Ask::Grants),
+    ("Reading::policies", Ask::Policies),
+    ("Reading::scan", Ask::Scan),
+    ("Reading::by_key", Ask::ByKey),
     ("RowSource::mark", Ask::Mark),
     ("StatementSource::mark_all", Ask::MarkAll),
-    ("StatementSource::unread", Ask::Unread),
 ];
 
-/// A source that notes reads, over changes that are put on a state, and what is asked of it.
+/// A source that notes reads, and what is asked of it.
 #[derive(Drop)]
 struct Looking<'c> {
-    source: Recording<Overlay<'c, Plain<'c>>>,
+    source: Recording<Plain<'c>>,
     place: &'c Place,
     ask: Ask,
     /// What is to be marked.
@@ -120,26 +109,13 @@ struct Looking<'c> {
 
 impl<'c> Looking<'c> {
     fn new(alloc: Global, place: &'c Place, ask: Ask) -> Result<Looking<'c>, Refusal> {
-        let table = place.asked.table.copy()?;
-        match overlay_on(alloc, place) {
-            Ok(overlay) => Ok(Looking {
-                source: Recording::new(alloc, overlay),
-                place,
-                ask,
-                rows: [Object::Rows(table)],
-            }),
-            Err(refusal) => {
-                drop(table);
-                Err(refusal)
-            }
-        }
+        Ok(Looking {
+            source: Recording::new(alloc, Plain::new(&place.state)),
+            place,
+            ask,
+            rows: [Object::Rows(place.asked.table.copy()?)],
+        })
     }
-}
-
-/// The changes put on the state.
-fn overlay_on<'c>(alloc: Global, place: &'c Place) -> Result<Overlay<'c, Plain<'c>>, Refusal> {
-    let below = Plain::new(&place.state);
-    Ok(Overlay::new(alloc, below, place.changes.as_slice())?)
 }
 
 impl<'c> Scenario for Looking<'c> {
@@ -156,11 +132,8 @@ impl<'c> Scenario for Looking<'c> {
             Ask::Policies => source.policies(alloc, &asked.table)?.len() == 0,
             Ask::Scan => source.scan(alloc, &asked.table)?.len() == 2,
             Ask::ByKey => source.by_key(alloc, &asked.table, &asked.key)?.len() == 1,
-            Ask::Look => source.look(alloc, &asked.table)?.len() == 2,
-            Ask::LookByKey => source.look_by_key(alloc, &asked.table, &asked.key)?.len() == 1,
             Ask::Mark => is_done(source.mark(alloc, &self.rows)?),
             Ask::MarkAll => is_done(source.mark_all(alloc, &asked.read)?),
-            Ask::Unread => source.unread(alloc)?.footprint.len() == 0,
         })
     }
 
@@ -189,15 +162,32 @@ struct NewOverlay<'c> {
 }
 
 impl<'c> Scenario for NewOverlay<'c> {
-    type Answer = Overlay<'c, Plain<'c>>;
+    /// How many memberships a role has behind them.
+    type Answer = usize;
 
-    fn call(&mut self, alloc: Global) -> Result<Overlay<'c, Plain<'c>>, Refusal> {
-        overlay_on(alloc, self.place)
+    fn call(&mut self, alloc: Global) -> Result<usize, Refusal> {
+        let mut room = None;
+        let members = members_behind(alloc, self.place, &mut room);
+        drop(room);
+        members
     }
 
-    fn is_answer(&self, _answer: &Overlay<'c, Plain<'c>>, _alloc: Global) -> Result<bool, Refusal> {
-        Ok(true)
+    fn is_answer(&self, answer: &usize, _alloc: Global) -> Result<bool, Refusal> {
+        Ok(*answer == 0)
     }
+}
+
+/// How many memberships a role has behind the changes, where there is room for the state behind them.
+fn members_behind(
+    alloc: Global,
+    place: &Place,
+    room: &mut Option<Catalog>,
+) -> Result<usize, Refusal> {
+    let below = Plain::new(&place.state);
+    let overlay = Overlay::new(alloc, below, &place.changes, room)?;
+    let members = overlay.catalog().members(&place.asked.role).len();
+    drop(overlay);
+    Ok(members)
 }
 
 /// Two states that differ in a row, and all that they have.

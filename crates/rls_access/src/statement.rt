@@ -3,7 +3,7 @@
 ghost use Rattle.std.specs.Prelude.{◌≡◌, ◌++◌, IfOk, OnOk, OnErr};
 ghost use Rattle.rls_value.specs.Giving.{Gives};
 ghost use Rattle.rls_guard.specs.rls_catalog.specs.State.{State, AgreesOn};
-ghost use Rattle.rls_guard.specs.rls_source.specs.{Footprints.footprint_of, Answering.Answers};
+ghost use Rattle.rls_guard.specs.rls_source.specs.{Footprints.footprint_of, Answering.Answers, Answering.having_read};
 ghost use Rattle.rls_access.specs.Statements as spec;
 ghost use Rattle.rls_access.specs.Statements.{effect_in, step, mode_or_refused};
 
@@ -14,7 +14,8 @@ use rls_ddl::{
     run_set_role,
 };
 use rls_dml::{run_delete, run_insert, run_select, run_update};
-use rls_guard::rls_source::{Footprint, Reads, RowSource, StatementSource};
+use rls_guard::rls_catalog::Catalog;
+use rls_guard::rls_source::{Asker, Footprint, Reads, StatementSource};
 use rls_guard::{Ctx, Effect, Mode};
 use rls_statement::Statement;
 use rls_value::{Name, Refusal, Tag, TxnState};
@@ -26,7 +27,7 @@ const USUAL_READS: usize = 24;
 /// Runs the statement over the source: what it comes to, with its changes, which the source doesn't get; what it read;
 /// and the role afterwards. All that it depends on is in the footprint, and a source that is borrowed has made just these
 /// reads; where memory runs out it has made none.
-pub fn run_statement<'c, S: StatementSource<'c> + Drop>(
+pub fn run_statement<'c, S: StatementSource<'c>>(
     alloc: Global,
     source: &mut S,
     ctx: &Ctx,
@@ -40,25 +41,24 @@ pub fn run_statement<'c, S: StatementSource<'c> + Drop>(
     ensures unread { OnErr result (source.new ≡ source.old) }
     ensures state { S.state source.new ≡ S.state source.old }
 {
-    let mut unread = source.unread(alloc)?;
-    let outcome = outcome_of(alloc, &mut unread, ctx, statement)?;
+    let outcome = outcome_of(alloc, source.catalog(), ctx, statement)?;
     source.mark_all(alloc, &outcome.footprint)?;
     Ok(outcome)
 }
 
-fn outcome_of<'c, S: RowSource<'c>>(
+fn outcome_of(
     alloc: Global,
-    source: &mut S,
+    catalog: &Catalog,
     ctx: &Ctx,
     statement: &Statement,
 ) -> Result<Outcome, AllocError>
-    ensures effect { IfOk result (λ outcome. outcome.effect ≡ effect_in (S.state source.old) ctx.now statement.now) }
-    ensures footprint { IfOk result (λ outcome. outcome.footprint ≡ footprint_of ((step ctx.now statement.now).in_state (S.state source.old)).reads) }
+    ensures effect { IfOk result (λ outcome. outcome.effect ≡ effect_in catalog.now ctx.now statement.now) }
+    ensures footprint { IfOk result (λ outcome. outcome.footprint ≡ footprint_of ((step ctx.now statement.now).in_state catalog.now).reads) }
     ensures role { IfOk result (λ outcome. outcome.role ≡ spec.role_after ctx.now.role outcome.effect) }
 {
-    let mut reads = Reads::with_capacity(alloc, USUAL_READS)?;
-    let effect = effect_of(alloc, source, &mut reads, ctx, statement)?;
-    match seen_of(alloc, reads, &ctx.role, &effect) {
+    let mut asker = Asker::with_capacity(alloc, catalog, USUAL_READS)?;
+    let effect = effect_of(&mut asker, ctx, statement)?;
+    match seen_of(alloc, asker.into_reads(), &ctx.role, &effect) {
         Ok((footprint, role)) => Ok(Outcome {
             effect,
             footprint,
@@ -101,64 +101,44 @@ fn role_after(role: &Name, effect: &Effect) -> Result<Name, AllocError>
 }
 
 /// What the statement comes to, a refusal as an effect.
-fn effect_of<'c, S: RowSource<'c>>(
-    alloc: Global,
-    source: &mut S,
-    read_set: &mut Reads,
-    ctx: &Ctx,
-    statement: &Statement,
-) -> Result<Effect, AllocError>
-    ensures effect { IfOk result (λ effect. effect ≡ effect_in (S.state source.old) ctx.now statement.now) }
-    ensures noted { OnOk result (read_set.new ≡ read_set.old ++ ((step ctx.now statement.now).in_state (S.state source.old)).reads) }
-    ensures read { OnOk result (source.new ≡ S.after source.old ((step ctx.now statement.now).in_state (S.state source.old)).reads) }
-    ensures state { S.state source.new ≡ S.state source.old }
+fn effect_of(asker: &mut Asker, ctx: &Ctx, statement: &Statement) -> Result<Effect, AllocError>
+    ensures effect { IfOk result (λ effect. effect ≡ effect_in asker.old.state ctx.now statement.now) }
+    ensures noted { OnOk result (asker.new ≡ having_read asker.old ((step ctx.now statement.now).in_state asker.old.state).reads) }
 {
-    match run(alloc, source, read_set, ctx, statement) {
+    match run(asker, ctx, statement) {
         Ok(effect) => Ok(effect),
         Err(Refusal::NoMemory) => Err(AllocError),
-        Err(refusal) => Ok(Effect::refused(alloc, refusal)),
+        Err(refusal) => Ok(Effect::refused(asker.alloc(), refusal)),
     }
 }
 
-fn run<'c, S: RowSource<'c>>(
-    alloc: Global,
-    source: &mut S,
-    read_set: &mut Reads,
-    ctx: &Ctx,
-    statement: &Statement,
-) -> Result<Effect, Refusal>
-    ensures { Answers S.state S.after (step ctx.now statement.now) source.old source.new read_set.old read_set.new result }
+fn run(asker: &mut Asker, ctx: &Ctx, statement: &Statement) -> Result<Effect, Refusal>
+    ensures { Answers (step ctx.now statement.now) asker.old asker.new result }
 {
     require_mode(ctx.mode, statement.tag())?;
-    done_by(alloc, source, read_set, ctx, statement)
+    done_by(asker, ctx, statement)
 }
 
-fn done_by<'c, S: RowSource<'c>>(
-    alloc: Global,
-    source: &mut S,
-    read_set: &mut Reads,
-    ctx: &Ctx,
-    statement: &Statement,
-) -> Result<Effect, Refusal>
-    ensures { Answers S.state S.after (spec.done_by ctx.now statement.now) source.old source.new read_set.old read_set.new result }
+fn done_by(asker: &mut Asker, ctx: &Ctx, statement: &Statement) -> Result<Effect, Refusal>
+    ensures { Answers (spec.done_by ctx.now statement.now) asker.old asker.new result }
 {
     match statement {
-        Statement::CreateRole(create) => run_create_role(alloc, source, read_set, ctx, create),
-        Statement::AlterRole(alter) => run_alter_role(alloc, source, read_set, ctx, alter),
-        Statement::CreateTable(create) => run_create_table(alloc, source, read_set, ctx, create),
-        Statement::AlterTable(alter) => run_alter_table(alloc, source, read_set, ctx, alter),
-        Statement::CreatePolicy(create) => run_create_policy(alloc, source, read_set, ctx, create),
-        Statement::AlterPolicy(alter) => run_alter_policy(alloc, source, read_set, ctx, alter),
-        Statement::DropPolicy(drop) => run_drop_policy(alloc, source, read_set, ctx, drop),
-        Statement::Grant(grant) => run_grant(alloc, source, read_set, ctx, grant),
-        Statement::GrantRoles(grant) => run_grant_roles(alloc, source, read_set, ctx, grant),
-        Statement::Revoke(revoke) => run_revoke(alloc, source, read_set, ctx, revoke),
-        Statement::RevokeRoles(revoke) => run_revoke_roles(alloc, source, read_set, ctx, revoke),
-        Statement::SetRole(set) => run_set_role(alloc, source, read_set, ctx, set),
-        Statement::Insert(insert) => run_insert(alloc, source, read_set, ctx, insert),
-        Statement::Update(update) => run_update(alloc, source, read_set, ctx, update),
-        Statement::Delete(delete) => run_delete(alloc, source, read_set, ctx, delete),
-        Statement::Select(select) => run_select(alloc, source, read_set, ctx, select),
+        Statement::CreateRole(create) => run_create_role(asker, ctx, create),
+        Statement::AlterRole(alter) => run_alter_role(asker, ctx, alter),
+        Statement::CreateTable(create) => run_create_table(asker, ctx, create),
+        Statement::AlterTable(alter) => run_alter_table(asker, ctx, alter),
+        Statement::CreatePolicy(create) => run_create_policy(asker, ctx, create),
+        Statement::AlterPolicy(alter) => run_alter_policy(asker, ctx, alter),
+        Statement::DropPolicy(drop) => run_drop_policy(asker, ctx, drop),
+        Statement::Grant(grant) => run_grant(asker, ctx, grant),
+        Statement::GrantRoles(grant) => run_grant_roles(asker, ctx, grant),
+        Statement::Revoke(revoke) => run_revoke(asker, ctx, revoke),
+        Statement::RevokeRoles(revoke) => run_revoke_roles(asker, ctx, revoke),
+        Statement::SetRole(set) => run_set_role(asker, ctx, set),
+        Statement::Insert(insert) => run_insert(asker, ctx, insert),
+        Statement::Update(update) => run_update(asker, ctx, update),
+        Statement::Delete(delete) => run_delete(asker, ctx, delete),
+        Statement::Select(select) => run_select(asker, ctx, select),
         Statement::Transaction(_) => Err(Refusal::TxnState(TxnState::AlreadyInProgress)),
     }
 }

@@ -1,3 +1,2 @@
-pub mod LookedUp
 pub mod Committing
 pub use Rattle.rls_catalog.specs.State

@@ -1,186 +1,73 @@
-//! Whether two sources have the same content at an object.
+//! Whether two states have the same content at an object.
 
-ghost use Rattle.std.specs.Prelude.{◌≡◌, ◌↔◌, true, [], ◌∷◌, filter, IfOk, OnOk};
+ghost use Rattle.std.specs.Prelude.{◌≡◌, ◌↔◌, true, filter, IfOk};
 ghost use Rattle.rls_catalog.specs.State.{AgreesAt, is_same_id};
-ghost use Rattle.rls_agreement.specs.LookedUp.{looked_up};
 
-use rls_catalog::BorrowedRow;
+use rls_catalog::{BorrowedRow, Catalog};
 use rls_equality::{Same, are_both_same, are_same};
-use rls_source::RowSource;
-use rls_value::{Items, Name, Object, Row, RowId};
+use rls_value::{Items, Name, Object, Row, RowId, or_drop};
 use std::alloc::{AllocError, Global};
 use std::cmp::Ordering;
 
 /// Whether the two have the same content at the object.
-pub(crate) fn agrees_at<'c, A: RowSource<'c>, B: RowSource<'c>>(
+pub(crate) fn agree_at(
     alloc: Global,
-    left: &mut A,
-    right: &mut B,
+    left: &Catalog,
+    right: &Catalog,
     object: &Object,
 ) -> Result<bool, AllocError>
-    ensures agrees { IfOk result (λ agrees. (agrees ≡ true) ↔ AgreesAt (A.state left.old) (B.state right.old) object.now) }
-    ensures read_left { OnOk result (left.new ≡ A.after left.old (looked_up object.now ∷ [])) }
-    ensures read_right { OnOk result (right.new ≡ B.after right.old (looked_up object.now ∷ [])) }
-    ensures left { A.state left.new ≡ A.state left.old }
-    ensures right { B.state right.new ≡ B.state right.old }
+    ensures { IfOk result (λ agree. (agree ≡ true) ↔ AgreesAt left.now right.now object.now) }
 {
     match object {
-        Object::Role(name) => role_agrees(alloc, left, right, name),
-        Object::Members(member) => members_agree(alloc, left, right, member),
-        Object::Table(name) => table_agrees(alloc, left, right, name),
-        Object::Grants(table) => grants_agree(alloc, left, right, table),
-        Object::Policies(table) => policies_agree(alloc, left, right, table),
+        Object::Role(name) => Ok(are_both_same(left.role(name), right.role(name))),
+        Object::Members(member) => Ok(left.members(member).is_same(right.members(member))),
+        Object::Table(name) => Ok(are_both_same(left.table(name), right.table(name))),
+        Object::Grants(table) => Ok(left.grants(table).is_same(right.grants(table))),
+        Object::Policies(table) => Ok(left.policies(table).is_same(right.policies(table))),
         Object::Rows(table) => rows_agree(alloc, left, right, table),
         Object::Key(table, key) => key_agrees(alloc, left, right, table, key),
         Object::RowOf(table, id) => row_agrees(alloc, left, right, table, *id),
     }
 }
 
-fn role_agrees<'c, A: RowSource<'c>, B: RowSource<'c>>(
+fn rows_agree(
     alloc: Global,
-    left: &mut A,
-    right: &mut B,
-    name: &Name,
-) -> Result<bool, AllocError>
-    ensures agrees { IfOk result (λ agrees. (agrees ≡ true) ↔ AgreesAt (A.state left.old) (B.state right.old) (Object.Role name.now)) }
-    ensures read_left { OnOk result (left.new ≡ A.after left.old (Object.Role name.now ∷ [])) }
-    ensures read_right { OnOk result (right.new ≡ B.after right.old (Object.Role name.now ∷ [])) }
-    ensures left { A.state left.new ≡ A.state left.old }
-    ensures right { B.state right.new ≡ B.state right.old }
-{
-    let found = left.role(alloc, name)?;
-    let other = right.role(alloc, name)?;
-    Ok(are_both_same(found, other))
-}
-
-fn members_agree<'c, A: RowSource<'c>, B: RowSource<'c>>(
-    alloc: Global,
-    left: &mut A,
-    right: &mut B,
-    member: &Name,
-) -> Result<bool, AllocError>
-    ensures agrees { IfOk result (λ agrees. (agrees ≡ true) ↔ AgreesAt (A.state left.old) (B.state right.old) (Object.Members member.now)) }
-    ensures read_left { OnOk result (left.new ≡ A.after left.old (Object.Members member.now ∷ [])) }
-    ensures read_right { OnOk result (right.new ≡ B.after right.old (Object.Members member.now ∷ [])) }
-    ensures left { A.state left.new ≡ A.state left.old }
-    ensures right { B.state right.new ≡ B.state right.old }
-{
-    let found = left.members(alloc, member)?;
-    let others = right.members(alloc, member)?;
-    Ok(found.is_same(others))
-}
-
-fn table_agrees<'c, A: RowSource<'c>, B: RowSource<'c>>(
-    alloc: Global,
-    left: &mut A,
-    right: &mut B,
-    name: &Name,
-) -> Result<bool, AllocError>
-    ensures agrees { IfOk result (λ agrees. (agrees ≡ true) ↔ AgreesAt (A.state left.old) (B.state right.old) (Object.Table name.now)) }
-    ensures read_left { OnOk result (left.new ≡ A.after left.old (Object.Table name.now ∷ [])) }
-    ensures read_right { OnOk result (right.new ≡ B.after right.old (Object.Table name.now ∷ [])) }
-    ensures left { A.state left.new ≡ A.state left.old }
-    ensures right { B.state right.new ≡ B.state right.old }
-{
-    let found = left.table(alloc, name)?;
-    let other = right.table(alloc, name)?;
-    Ok(are_both_same(found, other))
-}
-
-fn grants_agree<'c, A: RowSource<'c>, B: RowSource<'c>>(
-    alloc: Global,
-    left: &mut A,
-    right: &mut B,
+    left: &Catalog,
+    right: &Catalog,
     table: &Name,
 ) -> Result<bool, AllocError>
-    ensures agrees { IfOk result (λ agrees. (agrees ≡ true) ↔ AgreesAt (A.state left.old) (B.state right.old) (Object.Grants table.now)) }
-    ensures read_left { OnOk result (left.new ≡ A.after left.old (Object.Grants table.now ∷ [])) }
-    ensures read_right { OnOk result (right.new ≡ B.after right.old (Object.Grants table.now ∷ [])) }
-    ensures left { A.state left.new ≡ A.state left.old }
-    ensures right { B.state right.new ≡ B.state right.old }
+    ensures { IfOk result (λ agree. (agree ≡ true) ↔ AgreesAt left.now right.now (Object.Rows table.now)) }
 {
-    let found = left.grants(alloc, table)?;
-    let others = right.grants(alloc, table)?;
-    Ok(found.is_same(others))
+    let found = left.rows(alloc, table)?;
+    let others = or_drop!(right.rows(alloc, table), found);
+    Ok(are_same(found.as_slice(), others.as_slice()))
 }
 
-fn policies_agree<'c, A: RowSource<'c>, B: RowSource<'c>>(
+fn key_agrees(
     alloc: Global,
-    left: &mut A,
-    right: &mut B,
-    table: &Name,
-) -> Result<bool, AllocError>
-    ensures agrees { IfOk result (λ agrees. (agrees ≡ true) ↔ AgreesAt (A.state left.old) (B.state right.old) (Object.Policies table.now)) }
-    ensures read_left { OnOk result (left.new ≡ A.after left.old (Object.Policies table.now ∷ [])) }
-    ensures read_right { OnOk result (right.new ≡ B.after right.old (Object.Policies table.now ∷ [])) }
-    ensures left { A.state left.new ≡ A.state left.old }
-    ensures right { B.state right.new ≡ B.state right.old }
-{
-    let found = left.policies(alloc, table)?;
-    let others = right.policies(alloc, table)?;
-    Ok(found.is_same(others))
-}
-
-fn rows_agree<'c, A: RowSource<'c>, B: RowSource<'c>>(
-    alloc: Global,
-    left: &mut A,
-    right: &mut B,
-    table: &Name,
-) -> Result<bool, AllocError>
-    ensures agrees { IfOk result (λ agrees. (agrees ≡ true) ↔ AgreesAt (A.state left.old) (B.state right.old) (Object.Rows table.now)) }
-    ensures read_left { OnOk result (left.new ≡ A.after left.old (Object.Rows table.now ∷ [])) }
-    ensures read_right { OnOk result (right.new ≡ B.after right.old (Object.Rows table.now ∷ [])) }
-    ensures left { A.state left.new ≡ A.state left.old }
-    ensures right { B.state right.new ≡ B.state right.old }
-{
-    let found = left.scan(alloc, table)?;
-    match right.scan(alloc, table) {
-        Ok(others) => Ok(are_same(found.as_slice(), others.as_slice())),
-        Err(refused) => {
-            drop(found);
-            Err(refused)
-        }
-    }
-}
-
-fn key_agrees<'c, A: RowSource<'c>, B: RowSource<'c>>(
-    alloc: Global,
-    left: &mut A,
-    right: &mut B,
+    left: &Catalog,
+    right: &Catalog,
     table: &Name,
     key: &Row,
 ) -> Result<bool, AllocError>
-    ensures agrees { IfOk result (λ agrees. (agrees ≡ true) ↔ AgreesAt (A.state left.old) (B.state right.old) (Object.Key table.now key.now)) }
-    ensures read_left { OnOk result (left.new ≡ A.after left.old (Object.Key table.now key.now ∷ [])) }
-    ensures read_right { OnOk result (right.new ≡ B.after right.old (Object.Key table.now key.now ∷ [])) }
-    ensures left { A.state left.new ≡ A.state left.old }
-    ensures right { B.state right.new ≡ B.state right.old }
+    ensures { IfOk result (λ agree. (agree ≡ true) ↔ AgreesAt left.now right.now (Object.Key table.now key.now)) }
 {
-    let found = left.by_key(alloc, table, key)?;
-    match right.by_key(alloc, table, key) {
-        Ok(others) => Ok(are_same(found.as_slice(), others.as_slice())),
-        Err(refused) => {
-            drop(found);
-            Err(refused)
-        }
-    }
+    let found = left.rows_with_key(alloc, table, key)?;
+    let others = or_drop!(right.rows_with_key(alloc, table, key), found);
+    Ok(are_same(found.as_slice(), others.as_slice()))
 }
 
-fn row_agrees<'c, A: RowSource<'c>, B: RowSource<'c>>(
+fn row_agrees(
     alloc: Global,
-    left: &mut A,
-    right: &mut B,
+    left: &Catalog,
+    right: &Catalog,
     table: &Name,
     id: RowId,
 ) -> Result<bool, AllocError>
-    ensures agrees { IfOk result (λ agrees. (agrees ≡ true) ↔ AgreesAt (A.state left.old) (B.state right.old) (Object.RowOf table.now id)) }
-    ensures read_left { OnOk result (left.new ≡ A.after left.old (Object.Rows table.now ∷ [])) }
-    ensures read_right { OnOk result (right.new ≡ B.after right.old (Object.Rows table.now ∷ [])) }
-    ensures left { A.state left.new ≡ A.state left.old }
-    ensures right { B.state right.new ≡ B.state right.old }
+    ensures { IfOk result (λ agree. (agree ≡ true) ↔ AgreesAt left.now right.now (Object.RowOf table.now id)) }
 {
-    let found = with_number(left.scan(alloc, table)?, id);
-    match right.scan(alloc, table) {
+    let found = with_number(left.rows(alloc, table)?, id);
+    match right.rows(alloc, table) {
         Ok(others) => {
             let others = with_number(others, id);
             Ok(are_same(found.as_slice(), others.as_slice()))

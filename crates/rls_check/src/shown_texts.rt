@@ -19,6 +19,7 @@ use crate::walking::Turn;
 use rls_audit::rls_printing::push_escaped_line;
 use rls_audit::rls_rows::State;
 use rls_audit::{AttemptEnd, printed};
+use rls_explain::rls_guard::rls_source::RowSource;
 use rls_explain::{RowOutcome, RowWord, outcomes};
 use rls_statement::Statement;
 use rls_value::{Items, Name};
@@ -131,10 +132,10 @@ impl Turn {
         requires { IsMeant self.now }
         ensures { IfOk result (λ rows. rows.items ≡ filter (is_wanted wanted.now) (outcomes_in self.now.before self.now.ctx self.now.statement self.now.outcome.footprint)) }
     {
-        let mut source = self.before.view();
+        let source = self.before.view();
         let rows = outcomes(
             alloc,
-            &mut source,
+            source.catalog(),
             &self.ctx,
             self.statement.get(),
             &self.outcome.effect,

@@ -40,7 +40,7 @@ use crate::work::Work;
 use rls_catalog::shared_map::Share;
 use rls_conflict::{Conflicts, Transaction, structures_are_found};
 use rls_meaning::rls_access::{changes_go_on, rows_stay_sound};
-use rls_meaning::rls_guard::rls_source::RowSource;
+use rls_meaning::rls_guard::rls_source::Reading;
 use rls_rows::{State, Versions};
 use rls_statement::Statement;
 use rls_value::{Limit, Refusal, TxnState};

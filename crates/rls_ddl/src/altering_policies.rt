@@ -14,6 +14,7 @@ use crate::policies_written::written;
 use rls_expr::{Expr, Grantee, NamedTable, Policy, TableDef, copy_shared};
 use rls_guard::rls_catalog::{Change, Policies, find_policy, with_replaced};
 use rls_guard::rls_source::{Reads, RowSource, noted_policies, require_grantees, table_named};
+use rls_guard::rls_source::Asker;
 use rls_guard::{Ctx, Effect, require_ownership};
 use rls_statement::AlterPolicy;
 use rls_value::shared::Share;
@@ -21,66 +22,48 @@ use rls_value::{Items, Kind, Name, PolicyKind, Refusal};
 use std::alloc::{AllocError, Global};
 
 /// Changes the parts of a policy that are written; the others stay (PostgreSQL manual, ALTER POLICY).
-pub fn run_alter_policy<'c, S: RowSource<'c>>(
-    alloc: Global,
-    source: &mut S,
-    read_set: &mut Reads,
+pub fn run_alter_policy(
+    asker: &mut Asker,
     ctx: &Ctx,
     alter: &AlterPolicy,
 ) -> Result<Effect, Refusal>
-    ensures { Answers S.state S.after (alter_policy ctx.now alter.now) source.old source.new read_set.old read_set.new result }
+    ensures { Answers (alter_policy ctx.now alter.now) asker.old asker.new result }
 {
-    let table = table_named(alloc, source, read_set, &alter.table)?;
-    alter_on(alloc, source, read_set, &ctx.role, table, alter)
+    let table = asker.table_named(&alter.table)?;
+    alter_on(asker, &ctx.role, table, alter)
 }
 
 /// Alters the policy of that name, where the table has one.
 #[tactic(auto, unfolding(crate::specs::AlteringPolicies::alteration_on))]
-fn alter_on<'c, S: RowSource<'c>>(
-    alloc: Global,
-    source: &mut S,
-    read_set: &mut Reads,
+fn alter_on<'c>(
+    asker: &mut Asker<'c>,
     role: &Name,
     table: &'c TableDef,
     alter: &AlterPolicy,
 ) -> Result<Effect, Refusal>
-    ensures { Answers S.state S.after (alteration_on role.now table.now alter.now) source.old source.new read_set.old read_set.new result }
+    ensures { Answers (alteration_on role.now table.now alter.now) asker.old asker.new result }
 {
-    let policies = noted_policies(alloc, source, read_set, &alter.table)?;
+    let policies = asker.policies(&alter.table)?;
     let policy = policy_named(policies, &alter.name)?;
-    alter_named(
-        alloc, source, read_set, role, table, policies, policy, alter,
-    )
+    alter_named(asker, role, table, policies, policy, alter)
 }
 
 /// Alters the policy where the roles and names that are written are there.
 #[tactic(auto, unfolding(crate::specs::AlteringPolicies::alteration_of))]
-fn alter_named<'c, S: RowSource<'c>>(
-    alloc: Global,
-    source: &mut S,
-    read_set: &mut Reads,
+fn alter_named<'c>(
+    asker: &mut Asker<'c>,
     role: &Name,
     table: &'c TableDef,
     policies: &Policies,
     policy: &Policy,
     alter: &AlterPolicy,
 ) -> Result<Effect, Refusal>
-    ensures { Answers S.state S.after (alteration_of role.now table.now policies.now policy.now alter.now) source.old source.new read_set.old read_set.new result }
+    ensures { Answers (alteration_of role.now table.now policies.now policy.now alter.now) asker.old asker.new result }
 {
-    require_roles(alloc, source, read_set, &alter.to)?;
-    let found = found_for(
-        alloc,
-        source,
-        read_set,
-        &alter.using,
-        &alter.check,
-        &alter.table,
-        table,
-    )?;
+    require_roles(asker, &alter.to)?;
+    let found = found_for(asker, &alter.using, &alter.check, &alter.table, table)?;
     let effect = alter_over(
-        alloc,
-        source,
-        read_set,
+        asker,
         role,
         table,
         found.as_slice(),
@@ -94,10 +77,8 @@ fn alter_named<'c, S: RowSource<'c>>(
 
 /// Alters the policy where what is written is right for it.
 #[tactic(auto, unfolding(crate::specs::AlteringPolicies::alteration_over))]
-fn alter_over<'c, 'x, S: RowSource<'c>>(
-    alloc: Global,
-    source: &mut S,
-    read_set: &mut Reads,
+fn alter_over<'x>(
+    asker: &mut Asker,
     role: &Name,
     table: &'x TableDef,
     known: &'x [NamedTable<'x>],
@@ -105,40 +86,33 @@ fn alter_over<'c, 'x, S: RowSource<'c>>(
     policy: &Policy,
     alter: &AlterPolicy,
 ) -> Result<Effect, Refusal>
-    ensures { Answers S.state S.after (alteration_over role.now table.now known.now policies.now policy.now alter.now) source.old source.new read_set.old read_set.new result }
+    ensures { Answers (alteration_over role.now table.now known.now policies.now policy.now alter.now) asker.old asker.new result }
 {
-    require_conditions(alloc, table, known, policy.kind, alter)?;
-    make_alteration(alloc, source, read_set, role, table, policies, alter)
+    require_conditions(asker.alloc(), table, known, policy.kind, alter)?;
+    make_alteration(asker, role, table, policies, alter)
 }
 
 /// Alters the policy where the role has the privileges of the table's owner.
 #[tactic(auto, unfolding(crate::specs::AlteringPolicies::alteration_made))]
-fn make_alteration<'c, S: RowSource<'c>>(
-    alloc: Global,
-    source: &mut S,
-    read_set: &mut Reads,
+fn make_alteration(
+    asker: &mut Asker,
     role: &Name,
     table: &TableDef,
     policies: &Policies,
     alter: &AlterPolicy,
 ) -> Result<Effect, Refusal>
-    ensures { Answers S.state S.after (alteration_made role.now table.now policies.now alter.now) source.old source.new read_set.old read_set.new result }
+    ensures { Answers (alteration_made role.now table.now policies.now alter.now) asker.old asker.new result }
 {
-    require_ownership(alloc, source, read_set, role, &alter.table, table)?;
-    Ok(policies_changed(alloc, policies, alter)?)
+    require_ownership(asker, role, &alter.table, table)?;
+    Ok(policies_changed(asker.alloc(), policies, alter)?)
 }
 
 /// The first of the roles behind TO that isn't there is undefined.
-fn require_roles<'c, S: RowSource<'c>>(
-    alloc: Global,
-    source: &mut S,
-    read_set: &mut Reads,
-    to: &Option<Items<Grantee>>,
-) -> Result<(), Refusal>
-    ensures { Answers S.state S.after (roles_or_undefined to.now) source.old source.new read_set.old read_set.new result }
+fn require_roles(asker: &mut Asker, to: &Option<Items<Grantee>>) -> Result<(), Refusal>
+    ensures { Answers (roles_or_undefined to.now) asker.old asker.new result }
 {
     match to {
-        Some(to) => require_grantees(alloc, source, read_set, to.as_slice()),
+        Some(to) => asker.require_grantees(to.as_slice()),
         None => Ok(()),
     }
 }

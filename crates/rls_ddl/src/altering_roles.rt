@@ -7,38 +7,31 @@ ghost use Rattle.rls_ddl.specs.AlteringRoles.{alter_role, role_altered, role_cha
 
 use rls_guard::rls_catalog::{Change, RoleDef};
 use rls_guard::rls_source::{Reads, RowSource, role_named};
+use rls_guard::rls_source::Asker;
 use rls_guard::{Ctx, Effect, require_superuser};
 use rls_statement::AlterRole;
 use rls_value::{Name, Refusal};
 use std::alloc::{AllocError, Global};
 
 /// Changes the attributes that are written; the others stay.
-pub fn run_alter_role<'c, S: RowSource<'c>>(
-    alloc: Global,
-    source: &mut S,
-    read_set: &mut Reads,
-    ctx: &Ctx,
-    alter: &AlterRole,
-) -> Result<Effect, Refusal>
-    ensures { Answers S.state S.after (alter_role ctx.now alter.now) source.old source.new read_set.old read_set.new result }
+pub fn run_alter_role(asker: &mut Asker, ctx: &Ctx, alter: &AlterRole) -> Result<Effect, Refusal>
+    ensures { Answers (alter_role ctx.now alter.now) asker.old asker.new result }
 {
-    let role = role_named(alloc, source, read_set, &alter.name)?;
-    change_role(alloc, source, read_set, &ctx.role, alter, role)
+    let role = asker.role_named(&alter.name)?;
+    change_role(asker, &ctx.role, alter, role)
 }
 
 #[tactic(auto, unfolding(crate::specs::AlteringRoles::role_changed))]
-fn change_role<'c, S: RowSource<'c>>(
-    alloc: Global,
-    source: &mut S,
-    read_set: &mut Reads,
+fn change_role(
+    asker: &mut Asker,
     role: &Name,
     alter: &AlterRole,
     def: &RoleDef,
 ) -> Result<Effect, Refusal>
-    ensures { Answers S.state S.after (role_changed role.now alter.now def.now) source.old source.new read_set.old read_set.new result }
+    ensures { Answers (role_changed role.now alter.now def.now) asker.old asker.new result }
 {
-    require_superuser(alloc, source, read_set, role, &alter.name)?;
-    Ok(altered(alloc, alter, def)?)
+    require_superuser(asker, role, &alter.name)?;
+    Ok(altered(asker.alloc(), alter, def)?)
 }
 
 fn altered(alloc: Global, alter: &AlterRole, def: &RoleDef) -> Result<Effect, AllocError>

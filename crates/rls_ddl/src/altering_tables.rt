@@ -8,6 +8,7 @@ ghost use Rattle.rls_ddl.specs.AlteringTables.{altered, alter_table};
 use rls_expr::TableDef;
 use rls_guard::rls_catalog::Change;
 use rls_guard::rls_source::{Reads, RowSource, table_named};
+use rls_guard::rls_source::Asker;
 use rls_guard::{Ctx, Effect, require_ownership};
 use rls_statement::{AlterTable, RowSecurity};
 use rls_value::Refusal;
@@ -15,18 +16,12 @@ use std::alloc::{AllocError, Global};
 
 /// Turns row security on or off, or makes it bind the owner too or no longer (PostgreSQL manual, ALTER TABLE). The
 /// policies stay.
-pub fn run_alter_table<'c, S: RowSource<'c>>(
-    alloc: Global,
-    source: &mut S,
-    read_set: &mut Reads,
-    ctx: &Ctx,
-    alter: &AlterTable,
-) -> Result<Effect, Refusal>
-    ensures { Answers S.state S.after (alter_table ctx.now alter.now) source.old source.new read_set.old read_set.new result }
+pub fn run_alter_table(asker: &mut Asker, ctx: &Ctx, alter: &AlterTable) -> Result<Effect, Refusal>
+    ensures { Answers (alter_table ctx.now alter.now) asker.old asker.new result }
 {
-    let table = table_named(alloc, source, read_set, &alter.table)?;
-    require_ownership(alloc, source, read_set, &ctx.role, &alter.table, table)?;
-    Ok(table_changed(alloc, alter, table)?)
+    let table = asker.table_named(&alter.table)?;
+    require_ownership(asker, &ctx.role, &alter.table, table)?;
+    Ok(table_changed(asker.alloc(), alter, table)?)
 }
 
 fn table_changed(alloc: Global, alter: &AlterTable, table: &TableDef) -> Result<Effect, AllocError>

@@ -13,25 +13,24 @@ use rls_expr::{
     typing_of,
 };
 use rls_guard::rls_source::{Reads, RowSource};
+use rls_guard::rls_source::Asker;
 use rls_guard::{Found, is_unsupported, named_over};
 use rls_value::shared::Share;
 use rls_value::{Name, Refusal};
 use std::alloc::{AllocError, Global};
 
 /// The first unknown name of USING, then of WITH CHECK, is undefined; the tables that their subqueries name.
-pub fn found_for<'c, S: RowSource<'c>>(
-    alloc: Global,
-    source: &mut S,
-    read_set: &mut Reads,
+pub fn found_for<'c>(
+    asker: &mut Asker<'c>,
     using: &Option<Share<Expr>>,
     check: &Option<Share<Expr>>,
     name: &Name,
     table: &'c TableDef,
 ) -> Result<Found<'c>, Refusal>
-    ensures { Answers S.state S.after (named (condition_names «using».now check.now) ((name.now, table.now) ∷ []) []) source.old source.new read_set.old read_set.new result }
+    ensures { Answers (named (condition_names «using».now check.now) ((name.now, table.now) ∷ []) []) asker.old asker.new result }
 {
-    let steps = names_of(alloc, using, check)?;
-    let found = named_over(alloc, source, read_set, &steps, name, table);
+    let steps = names_of(asker.alloc(), using, check)?;
+    let found = named_over(asker, &steps, name, table);
     drop(steps);
     found
 }

@@ -15,6 +15,7 @@ use crate::policies_written::written;
 use rls_expr::{NamedTable, Policy, TableDef};
 use rls_guard::rls_catalog::{Change, Policies, with_policy};
 use rls_guard::rls_source::{Reads, RowSource, noted_policies, require_grantees, table_named};
+use rls_guard::rls_source::Asker;
 use rls_guard::{Ctx, Effect, require_ownership};
 use rls_statement::CreatePolicy;
 use rls_value::{DefinedKind, Limit, Name, Refusal};
@@ -24,89 +25,56 @@ use std::alloc::{AllocError, Global};
 const MAX_POLICIES: usize = 64;
 
 /// Adds a policy of the table (PostgreSQL manual, CREATE POLICY).
-pub fn run_create_policy<'c, S: RowSource<'c>>(
-    alloc: Global,
-    source: &mut S,
-    read_set: &mut Reads,
+pub fn run_create_policy(
+    asker: &mut Asker,
     ctx: &Ctx,
     create: &CreatePolicy,
 ) -> Result<Effect, Refusal>
-    ensures { Answers S.state S.after (create_policy ctx.now create.now) source.old source.new read_set.old read_set.new result }
+    ensures { Answers (create_policy ctx.now create.now) asker.old asker.new result }
 {
-    let table = table_named(alloc, source, read_set, &create.table)?;
-    policy_on(
-        alloc,
-        source,
-        read_set,
-        &ctx.role,
-        &create.table,
-        table,
-        &create.policy,
-    )
+    let table = asker.table_named(&create.table)?;
+    policy_on(asker, &ctx.role, &create.table, table, &create.policy)
 }
 
 /// Adds the policy where its roles and names are there.
 #[tactic(auto, unfolding(crate::specs::CreatingPolicies::policy_on))]
-fn policy_on<'c, S: RowSource<'c>>(
-    alloc: Global,
-    source: &mut S,
-    read_set: &mut Reads,
+fn policy_on<'c>(
+    asker: &mut Asker<'c>,
     role: &Name,
     name: &Name,
     table: &'c TableDef,
     policy: &Policy,
 ) -> Result<Effect, Refusal>
-    ensures { Answers S.state S.after (spec.policy_on role.now name.now table.now policy.now) source.old source.new read_set.old read_set.new result }
+    ensures { Answers (spec.policy_on role.now name.now table.now policy.now) asker.old asker.new result }
 {
-    require_grantees(alloc, source, read_set, policy.to.as_slice())?;
-    let found = found_for(
-        alloc,
-        source,
-        read_set,
-        &policy.using,
-        &policy.check,
-        name,
-        table,
-    )?;
-    let effect = add_policy(
-        alloc,
-        source,
-        read_set,
-        role,
-        name,
-        table,
-        found.as_slice(),
-        policy,
-    );
+    asker.require_grantees(policy.to.as_slice())?;
+    let found = found_for(asker, &policy.using, &policy.check, name, table)?;
+    let effect = add_policy(asker, role, name, table, found.as_slice(), policy);
     drop(found);
     effect
 }
 
 /// Adds the policy where it is right beside those that are there.
 #[tactic(auto, unfolding(crate::specs::CreatingPolicies::policy_added))]
-fn add_policy<'c, 'x, S: RowSource<'c>>(
-    alloc: Global,
-    source: &mut S,
-    read_set: &mut Reads,
+fn add_policy<'x>(
+    asker: &mut Asker,
     role: &Name,
     name: &Name,
     table: &'x TableDef,
     known: &'x [NamedTable<'x>],
     policy: &Policy,
 ) -> Result<Effect, Refusal>
-    ensures { Answers S.state S.after (policy_added role.now name.now table.now known.now policy.now) source.old source.new read_set.old read_set.new result }
+    ensures { Answers (policy_added role.now name.now table.now known.now policy.now) asker.old asker.new result }
 {
-    let policies = noted_policies(alloc, source, read_set, name)?;
-    require_policy(alloc, policies, name, table, known, policy)?;
-    make_policy(alloc, source, read_set, role, name, table, policies, policy)
+    let policies = asker.policies(name)?;
+    require_policy(asker.alloc(), policies, name, table, known, policy)?;
+    make_policy(asker, role, name, table, policies, policy)
 }
 
 /// Adds the policy where the role has the privileges of the table's owner.
 #[tactic(auto, unfolding(crate::specs::CreatingPolicies::policy_made))]
-fn make_policy<'c, S: RowSource<'c>>(
-    alloc: Global,
-    source: &mut S,
-    read_set: &mut Reads,
+fn make_policy(
+    asker: &mut Asker,
     role: &Name,
     name: &Name,
     table: &TableDef,
@@ -114,10 +82,10 @@ fn make_policy<'c, S: RowSource<'c>>(
     policy: &Policy,
 ) -> Result<Effect, Refusal>
     requires new { has_policy policies.now policy.now.name ≡ false }
-    ensures { Answers S.state S.after (policy_made role.now name.now table.now policies.now policy.now) source.old source.new read_set.old read_set.new result }
+    ensures { Answers (policy_made role.now name.now table.now policies.now policy.now) asker.old asker.new result }
 {
-    require_ownership(alloc, source, read_set, role, name, table)?;
-    Ok(policies_changed(alloc, name, policies, policy)?)
+    require_ownership(asker, role, name, table)?;
+    Ok(policies_changed(asker.alloc(), name, policies, policy)?)
 }
 
 fn policies_changed(

@@ -7,39 +7,28 @@ ghost use Rattle.rls_ddl.specs.CreatingRoles.{create_role, role_made, role_with}
 
 use rls_guard::rls_catalog::{Change, RoleDef};
 use rls_guard::rls_source::{Reads, RowSource, noted_role};
+use rls_guard::rls_source::Asker;
 use rls_guard::{Ctx, Effect, require_superuser};
 use rls_statement::CreateRole;
 use rls_value::{DefinedKind, Name, Refusal};
 use std::alloc::{AllocError, Global};
 
 /// Adds a role; an attribute that isn't written is not given.
-pub fn run_create_role<'c, S: RowSource<'c>>(
-    alloc: Global,
-    source: &mut S,
-    read_set: &mut Reads,
-    ctx: &Ctx,
-    create: &CreateRole,
-) -> Result<Effect, Refusal>
-    ensures { Answers S.state S.after (create_role ctx.now create.now) source.old source.new read_set.old read_set.new result }
+pub fn run_create_role(asker: &mut Asker, ctx: &Ctx, create: &CreateRole) -> Result<Effect, Refusal>
+    ensures { Answers (create_role ctx.now create.now) asker.old asker.new result }
 {
-    if noted_role(alloc, source, read_set, &create.name)?.is_some() {
+    if asker.role(&create.name)?.is_some() {
         return Err(Refusal::Duplicate(DefinedKind::Role, create.name.copy()?));
     }
-    make_role(alloc, source, read_set, &ctx.role, create)
+    make_role(asker, &ctx.role, create)
 }
 
 #[tactic(auto, unfolding(crate::specs::CreatingRoles::role_made))]
-fn make_role<'c, S: RowSource<'c>>(
-    alloc: Global,
-    source: &mut S,
-    read_set: &mut Reads,
-    role: &Name,
-    create: &CreateRole,
-) -> Result<Effect, Refusal>
-    ensures { Answers S.state S.after (role_made role.now create.now) source.old source.new read_set.old read_set.new result }
+fn make_role(asker: &mut Asker, role: &Name, create: &CreateRole) -> Result<Effect, Refusal>
+    ensures { Answers (role_made role.now create.now) asker.old asker.new result }
 {
-    require_superuser(alloc, source, read_set, role, &create.name)?;
-    Ok(made(alloc, create)?)
+    require_superuser(asker, role, &create.name)?;
+    Ok(made(asker.alloc(), create)?)
 }
 
 fn made(alloc: Global, create: &CreateRole) -> Result<Effect, AllocError>

@@ -12,57 +12,52 @@ use rls_expr::TableDef;
 use rls_guard::rls_catalog::{Change, Delta, Grants};
 use rls_guard::rls_grant::{own_grants, put_grants};
 use rls_guard::rls_source::{Reads, RowSource, noted_grants, noted_table};
+use rls_guard::rls_source::Asker;
 use rls_guard::{Ctx, Effect};
 use rls_statement::CreateTable;
 use rls_value::{DefinedKind, Items, Name, Refusal};
 use std::alloc::{AllocError, Global};
 
 /// Adds a table, owned by the current role, which gets every privilege on it (PostgreSQL manual, CREATE TABLE).
-pub fn run_create_table<'c, S: RowSource<'c>>(
-    alloc: Global,
-    source: &mut S,
-    read_set: &mut Reads,
+pub fn run_create_table(
+    asker: &mut Asker,
     ctx: &Ctx,
     create: &CreateTable,
 ) -> Result<Effect, Refusal>
-    ensures { Answers S.state S.after (spec.create_table ctx.now create.now) source.old source.new read_set.old read_set.new result }
+    ensures { Answers (spec.create_table ctx.now create.now) asker.old asker.new result }
 {
-    let key = key_places(alloc, create)?;
-    let effect = make_unless_taken(alloc, source, read_set, ctx, create, key.as_slice());
+    let key = key_places(asker.alloc(), create)?;
+    let effect = make_unless_taken(asker, ctx, create, key.as_slice());
     drop(key);
     effect
 }
 
 #[tactic(auto, unfolding(crate::specs::CreatingTables::table_unless_taken))]
-fn make_unless_taken<'c, S: RowSource<'c>>(
-    alloc: Global,
-    source: &mut S,
-    read_set: &mut Reads,
+fn make_unless_taken(
+    asker: &mut Asker,
     ctx: &Ctx,
     create: &CreateTable,
     key: &[usize],
 ) -> Result<Effect, Refusal>
-    ensures { Answers S.state S.after (spec.table_unless_taken ctx.now create.now key.now) source.old source.new read_set.old read_set.new result }
+    ensures { Answers (spec.table_unless_taken ctx.now create.now key.now) asker.old asker.new result }
 {
-    if noted_table(alloc, source, read_set, &create.name)?.is_some() {
+    if asker.table(&create.name)?.is_some() {
         return Err(Refusal::Duplicate(DefinedKind::Relation, create.name.copy()?));
     }
-    make_table(alloc, source, read_set, ctx, create, key)
+    make_table(asker, ctx, create, key)
 }
 
 #[tactic(auto, unfolding(crate::specs::CreatingTables::table_made))]
-fn make_table<'c, S: RowSource<'c>>(
-    alloc: Global,
-    source: &mut S,
-    read_set: &mut Reads,
+fn make_table(
+    asker: &mut Asker,
     ctx: &Ctx,
     create: &CreateTable,
     key: &[usize],
 ) -> Result<Effect, Refusal>
-    ensures { Answers S.state S.after (spec.table_made ctx.now create.now key.now) source.old source.new read_set.old read_set.new result }
+    ensures { Answers (spec.table_made ctx.now create.now key.now) asker.old asker.new result }
 {
-    let grants = noted_grants(alloc, source, read_set, &create.name)?;
-    Ok(made(alloc, &ctx.role, create, key, grants)?)
+    let grants = asker.grants(&create.name)?;
+    Ok(made(asker.alloc(), &ctx.role, create, key, grants)?)
 }
 
 fn made(

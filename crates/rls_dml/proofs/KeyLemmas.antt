@@ -1,6 +1,6 @@
 -- What is read to tell whether keys are taken: each key, in order.
 use Rattle.std.specs.Prelude.{◌≡◌, refl, ℕ, List, [], ◌∷◌, ◌++◌, Result, Ok, Err}
-use Rattle.std.proofs.Common.{ap, sym, ◌∙◌, append-nil}
+use Rattle.std.proofs.Common.{ap, sym, ◌∙◌, append-nil, append_assoc}
 use Rattle.rls_value.specs.declared.refusal.Refusal.{Refusal}
 use Rattle.rls_value.specs.declared.object.Object.{Object}
 use Rattle.rls_value.specs.declared.object.Object.TheVariants as o
@@ -21,12 +21,11 @@ taken_reads s table replaced key keys =
     ap (λ more. o.Key table key ∷ (((keys_taken table replaced keys).in_state s).reads ++ more)) (none_next ((keys_taken table replaced keys).in_state s).gives _)
     ∙ ap (λ reads. o.Key table key ∷ reads) (append-nil ((keys_taken table replaced keys).in_state s).reads)
 
--- the source after a key's read and the others' is the one after them all
-pub taken_next : {S : Type 0} (after : S → List Object → S) → ((s : S) (os more : List Object) → after (after s os) more ≡ after s (os ++ more))
-    → (now : State) (table : List ℕ) (replaced : List Stored) (key : List Value) (keys left : List (List Value)) (source new : S) (whole : S) → left ≡ key ∷ keys → new ≡ after source (o.Key table key ∷ [])
-    → after source ((keys_taken table replaced left).in_state now).reads ≡ whole → after new ((keys_taken table replaced keys).in_state now).reads ≡ whole
-taken_next after after_more now table replaced key keys left source new whole is read rest =
-    ap (λ s. after s ((keys_taken table replaced keys).in_state now).reads) read
-    ∙ after_more source (o.Key table key ∷ []) ((keys_taken table replaced keys).in_state now).reads
-    ∙ ap (after source) (sym (ap (λ ks. ((keys_taken table replaced ks).in_state now).reads) is ∙ taken_reads now table replaced key keys))
+-- a key's read and the others' are the reads of them all
+pub taken_next : (now : State) (table : List ℕ) (replaced : List Stored) (key : List Value) (keys left : List (List Value)) (reads new whole : List Object) → left ≡ key ∷ keys → new ≡ reads ++ o.Key table key ∷ []
+    → reads ++ ((keys_taken table replaced left).in_state now).reads ≡ whole → new ++ ((keys_taken table replaced keys).in_state now).reads ≡ whole
+taken_next now table replaced key keys left reads new whole is read rest =
+    ap (λ all. all ++ ((keys_taken table replaced keys).in_state now).reads) read
+    ∙ append_assoc reads (o.Key table key ∷ []) ((keys_taken table replaced keys).in_state now).reads
+    ∙ ap (λ more. reads ++ more) (sym (ap (λ ks. ((keys_taken table replaced ks).in_state now).reads) is ∙ taken_reads now table replaced key keys))
     ∙ rest

@@ -18,6 +18,7 @@ use rls_expr::{
 };
 use rls_guard::rls_source::{Reads, RowSource};
 use rls_guard::{Ctx, Found, named};
+use rls_source::Asker;
 use rls_statement::{Insert, Selected};
 use rls_value::{Items, Limit, Name, Refusal};
 use std::alloc::{AllocError, Global};
@@ -33,20 +34,18 @@ pub struct AnalysedInsert<'c> {
 }
 
 /// The parts of the statement, where names and types are right and numbers are left.
-pub fn known_analysed_insert<'c, S: RowSource<'c>>(
-    alloc: Global,
-    source: &mut S,
-    read_set: &mut Reads,
+pub fn known_analysed_insert<'c>(
+    asker: &mut Asker<'c>,
     ctx: &Ctx,
     insert: &Insert,
     table: &'c TableDef,
 ) -> Result<AnalysedInsert<'c>, Refusal>
-    ensures given { Answers S.state S.after (spec.analysed_insert_for ctx.now insert.now table.now) source.old source.new read_set.old read_set.new result }
+    ensures given { Answers (spec.analysed_insert_for ctx.now insert.now table.now) asker.old asker.new result }
     ensures room { IfOk result (λ analysed_insert. ctx.now.next + length analysed_insert.tuples ≤ 4294967295) }
 {
-    let places = places_of(alloc, table, &insert.columns)?;
-    match found_for(alloc, source, read_set, insert, table) {
-        Ok(found) => check_analysed_insert(alloc, ctx.next, insert, table, places, found),
+    let places = places_of(asker.alloc(), table, &insert.columns)?;
+    match found_for(asker, insert, table) {
+        Ok(found) => check_analysed_insert(asker.alloc(), ctx.next, insert, table, places, found),
         Err(refusal) => {
             drop(places);
             Err(refusal)
@@ -55,36 +54,23 @@ pub fn known_analysed_insert<'c, S: RowSource<'c>>(
 }
 
 /// Looks for the names of the tuples and of RETURNING.
-fn found_for<'c, S: RowSource<'c>>(
-    alloc: Global,
-    source: &mut S,
-    read_set: &mut Reads,
+fn found_for<'c>(
+    asker: &mut Asker<'c>,
     insert: &Insert,
     table: &'c TableDef,
 ) -> Result<Found<'c>, Refusal>
-    ensures { Answers S.state S.after (spec.analysed_insert_named insert.now (insert.now.table, table.now)) source.old source.new read_set.old read_set.new result }
+    ensures { Answers (spec.analysed_insert_named insert.now (insert.now.table, table.now)) asker.old asker.new result }
 {
-    let found = found_in_tuples(alloc, source, read_set, insert.tuples.as_slice())?;
-    found_in_returning(alloc, source, read_set, insert, table, found)
+    let found = found_in_tuples(asker, insert.tuples.as_slice())?;
+    found_in_returning(asker, insert, table, found)
 }
 
-fn found_in_tuples<'c, S: RowSource<'c>>(
-    alloc: Global,
-    source: &mut S,
-    read_set: &mut Reads,
-    tuples: &[Items<Expr>],
-) -> Result<Found<'c>, Refusal>
-    ensures { Answers S.state S.after (named (spec.tuples_names tuples.now) [] []) source.old source.new read_set.old read_set.new result }
+fn found_in_tuples<'c>(asker: &mut Asker<'c>, tuples: &[Items<Expr>]) -> Result<Found<'c>, Refusal>
+    ensures { Answers (named (spec.tuples_names tuples.now) [] []) asker.old asker.new result }
 {
+    let alloc = asker.alloc();
     let steps = tuples_names(alloc, tuples)?;
-    let found = named(
-        alloc,
-        source,
-        read_set,
-        &steps,
-        Vec::new(alloc),
-        Items::new(alloc),
-    );
+    let found = named(asker, &steps, Vec::new(alloc), Items::new(alloc));
     drop(steps);
     found
 }
@@ -102,19 +88,17 @@ fn tuples_names<'x>(
     Ok(steps)
 }
 
-fn found_in_returning<'c, S: RowSource<'c>>(
-    alloc: Global,
-    source: &mut S,
-    read_set: &mut Reads,
+fn found_in_returning<'c>(
+    asker: &mut Asker<'c>,
     insert: &Insert,
     table: &'c TableDef,
     found: Found<'c>,
 ) -> Result<Found<'c>, Refusal>
-    ensures { Answers S.state S.after (named (returning_names insert.now.returning) ((insert.now.table, table.now) ∷ []) found.entry) source.old source.new read_set.old read_set.new result }
+    ensures { Answers (named (returning_names insert.now.returning) ((insert.now.table, table.now) ∷ []) found.entry) asker.old asker.new result }
 {
-    let steps = names_of_returning(alloc, &insert.returning)?;
-    let tables = table_of(alloc, insert, table)?;
-    let found = named(alloc, source, read_set, &steps, tables, found);
+    let steps = names_of_returning(asker.alloc(), &insert.returning)?;
+    let tables = table_of(asker.alloc(), insert, table)?;
+    let found = named(asker, &steps, tables, found);
     drop(steps);
     found
 }

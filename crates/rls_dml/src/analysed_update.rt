@@ -21,6 +21,7 @@ use rls_expr::{
 };
 use rls_guard::rls_source::{Reads, RowSource};
 use rls_guard::{Found, is_unsupported_with, named_over};
+use rls_source::Asker;
 use rls_statement::{Assignment, Selected, Update};
 use rls_value::{Items, Name, Refusal};
 use std::alloc::{AllocError, Global};
@@ -36,31 +37,27 @@ pub struct AnalysedUpdate<'c> {
 }
 
 /// The parts of the statement.
-pub fn known_analysed_update<'c, S: RowSource<'c>>(
-    alloc: Global,
-    source: &mut S,
-    read_set: &mut Reads,
+pub fn known_analysed_update<'c>(
+    asker: &mut Asker<'c>,
     update: &Update,
     table: &'c TableDef,
 ) -> Result<AnalysedUpdate<'c>, Refusal>
-    ensures { Answers S.state S.after (spec.analysed_update_for update.now table.now) source.old source.new read_set.old read_set.new result }
+    ensures { Answers (spec.analysed_update_for update.now table.now) asker.old asker.new result }
 {
-    let found = found_for(alloc, source, read_set, update, table)?;
-    check_analysed_update(alloc, update, table, found)
+    let found = found_for(asker, update, table)?;
+    check_analysed_update(asker.alloc(), update, table, found)
 }
 
 /// Looks for the names of SET, of the condition and of RETURNING.
-fn found_for<'c, S: RowSource<'c>>(
-    alloc: Global,
-    source: &mut S,
-    read_set: &mut Reads,
+fn found_for<'c>(
+    asker: &mut Asker<'c>,
     update: &Update,
     table: &'c TableDef,
 ) -> Result<Found<'c>, Refusal>
-    ensures { Answers S.state S.after (named (spec.analysed_update_names update.now) ((update.now.table, table.now) ∷ []) []) source.old source.new read_set.old read_set.new result }
+    ensures { Answers (named (spec.analysed_update_names update.now) ((update.now.table, table.now) ∷ []) []) asker.old asker.new result }
 {
-    let steps = names_of(alloc, update)?;
-    let found = named_over(alloc, source, read_set, &steps, &update.table, table);
+    let steps = names_of(asker.alloc(), update)?;
+    let found = named_over(asker, &steps, &update.table, table);
     drop(steps);
     found
 }

@@ -10,20 +10,19 @@ use rls_guard::Decision;
 use rls_guard::rls_catalog::{BorrowedRow, Stored};
 use rls_guard::rls_source::{Reads, RowSource};
 use rls_judging::{CheckContext, judged, qualifying_rows_of};
+use rls_source::Asker;
 use rls_value::{Items, Name};
-use std::alloc::{AllocError, Global};
+use std::alloc::AllocError;
 
 /// The decisions on the rows that are looked at, and those that qualify. The decisions have room for those on new rows.
-pub fn qualifying_rows_under<'a, 'c, S: RowSource<'c>>(
-    alloc: Global,
-    source: &mut S,
-    read_set: &mut Reads,
+pub fn qualifying_rows_under<'a, 'c>(
+    asker: &mut Asker<'c>,
     expansion: &'a PolicyExpansion<'c>,
     role: &'a Name,
     condition: &'a Option<Expr>,
     scanned_rows: &'a [BorrowedRow<'c>],
 ) -> Result<(Vec<Decision>, Vec<&'a BorrowedRow<'c>>), AllocError>
-    ensures { Tells S.state S.after (spec.qualifying_rows_of expansion.now.old expansion.now.relations role.now condition.now scanned_rows.now) source.old source.new read_set.old read_set.new (judged_now result) }
+    ensures { Tells (spec.qualifying_rows_of expansion.now.old expansion.now.relations role.now condition.now scanned_rows.now) asker.old asker.new (judged_now result) }
 {
     let check_context = CheckContext {
         row_checks: expansion.old.as_slice(),
@@ -31,9 +30,7 @@ pub fn qualifying_rows_under<'a, 'c, S: RowSource<'c>>(
         role,
     };
     qualifying_rows_of(
-        alloc,
-        source,
-        read_set,
+        asker,
         check_context,
         condition,
         scanned_rows,
@@ -42,20 +39,18 @@ pub fn qualifying_rows_under<'a, 'c, S: RowSource<'c>>(
 }
 
 /// The decisions on new rows.
-pub fn judged_under<'a, 'c, S: RowSource<'c>>(
-    alloc: Global,
-    source: &mut S,
-    read_set: &mut Reads,
+pub fn judged_under<'a, 'c>(
+    asker: &mut Asker<'c>,
     expansion: &'a PolicyExpansion<'c>,
     role: &'a Name,
     rows: &'a Items<Stored>,
 ) -> Result<Vec<Decision>, AllocError>
-    ensures { Tells S.state S.after (spec.decisions_of expansion.now.new expansion.now.relations role.now rows.now) source.old source.new read_set.old read_set.new (items_now result) }
+    ensures { Tells (spec.decisions_of expansion.now.new expansion.now.relations role.now rows.now) asker.old asker.new (items_now result) }
 {
     let check_context = CheckContext {
         row_checks: expansion.new.as_slice(),
         relations: expansion.relations.as_slice(),
         role,
     };
-    judged(alloc, source, read_set, check_context, rows.as_slice())
+    judged(asker, check_context, rows.as_slice())
 }

@@ -26,6 +26,7 @@ use rls_guard::{
     role_privileges_of,
 };
 use rls_judging::scanned_rows;
+use rls_source::Asker;
 use rls_statement::{Delete, Selected};
 use rls_value::{Items, Kind, Name, Privilege, Refusal};
 use std::alloc::{AllocError, Global};
@@ -40,52 +41,42 @@ pub struct AnalysedDelete<'c> {
 }
 
 /// Deletes the rows that row security lets go and that meet the condition. What it hides stays.
-pub fn run_delete<'c, S: RowSource<'c>>(
-    alloc: Global,
-    source: &mut S,
-    read_set: &mut Reads,
-    ctx: &Ctx,
-    delete: &Delete,
-) -> Result<Effect, Refusal>
-    ensures { Answers S.state S.after (spec.delete ctx.now delete.now) source.old source.new read_set.old read_set.new result }
+pub fn run_delete(asker: &mut Asker, ctx: &Ctx, delete: &Delete) -> Result<Effect, Refusal>
+    ensures { Answers (spec.delete ctx.now delete.now) asker.old asker.new result }
 {
-    let table = table_named(alloc, source, read_set, &delete.table)?;
+    let table = asker.table_named(&delete.table)?;
     let from = FromTable {
         name: &delete.table,
         table,
     };
-    let analysed_delete = known_analysed_delete(alloc, source, read_set, delete, table)?;
-    let deleted = delete_from(alloc, source, read_set, &ctx.role, from, &analysed_delete);
+    let analysed_delete = known_analysed_delete(asker, delete, table)?;
+    let deleted = delete_from(asker, &ctx.role, from, &analysed_delete);
     drop(analysed_delete);
     deleted
 }
 
 /// The parts of the statement.
-fn known_analysed_delete<'c, S: RowSource<'c>>(
-    alloc: Global,
-    source: &mut S,
-    read_set: &mut Reads,
+fn known_analysed_delete<'c>(
+    asker: &mut Asker<'c>,
     delete: &Delete,
     table: &'c TableDef,
 ) -> Result<AnalysedDelete<'c>, Refusal>
-    ensures { Answers S.state S.after (spec.analysed_delete_for delete.now table.now) source.old source.new read_set.old read_set.new result }
+    ensures { Answers (spec.analysed_delete_for delete.now table.now) asker.old asker.new result }
 {
-    let found = found_for(alloc, source, read_set, delete, table)?;
-    check_analysed_delete(alloc, delete, table, found)
+    let found = found_for(asker, delete, table)?;
+    check_analysed_delete(asker.alloc(), delete, table, found)
 }
 
 /// Looks for the names of the condition and of RETURNING.
-fn found_for<'c, S: RowSource<'c>>(
-    alloc: Global,
-    source: &mut S,
-    read_set: &mut Reads,
+fn found_for<'c>(
+    asker: &mut Asker<'c>,
     delete: &Delete,
     table: &'c TableDef,
 ) -> Result<Found<'c>, Refusal>
-    ensures { Answers S.state S.after (named (spec.analysed_delete_names delete.now) ((delete.now.table, table.now) ∷ []) []) source.old source.new read_set.old read_set.new result }
+    ensures { Answers (named (spec.analysed_delete_names delete.now) ((delete.now.table, table.now) ∷ []) []) asker.old asker.new result }
 {
-    let steps = names_of(alloc, delete)?;
-    let found = named_over(alloc, source, read_set, &steps, &delete.table, table);
+    let steps = names_of(asker.alloc(), delete)?;
+    let found = named_over(asker, &steps, &delete.table, table);
     drop(steps);
     found
 }
@@ -195,55 +186,34 @@ fn columns_of_delete(
 
 /// The role's privileges, the policy expansion, and the rows.
 #[tactic(auto, unfolding(crate::specs::Deleting::delete_from))]
-fn delete_from<'c, 'x, S: RowSource<'c>>(
-    alloc: Global,
-    source: &mut S,
-    read_set: &mut Reads,
+fn delete_from<'x>(
+    asker: &mut Asker,
     role: &Name,
     from: FromTable<'x>,
     analysed_delete: &AnalysedDelete,
 ) -> Result<Effect, Refusal>
-    ensures { Answers S.state S.after (spec.delete_from role.now from.entry.name.now from.entry.table.now analysed_delete.now) source.old source.new read_set.old read_set.new result }
+    ensures { Answers (spec.delete_from role.now from.entry.name.now from.entry.table.now analysed_delete.now) asker.old asker.new result }
 {
-    let role_privileges = role_privileges_of(alloc, source, read_set, role)?;
-    let deleted = delete_as(
-        alloc,
-        source,
-        read_set,
-        &role_privileges,
-        role,
-        from,
-        analysed_delete,
-    );
+    let role_privileges = role_privileges_of(asker, role)?;
+    let deleted = delete_as(asker, &role_privileges, role, from, analysed_delete);
     drop(role_privileges);
     deleted
 }
 
 /// The policy expansion, and the rows.
 #[tactic(auto, unfolding(crate::specs::Deleting::delete_as))]
-fn delete_as<'c, 'x, S: RowSource<'c>>(
-    alloc: Global,
-    source: &mut S,
-    read_set: &mut Reads,
+fn delete_as<'x>(
+    asker: &mut Asker,
     role_privileges: &RolePrivileges,
     role: &Name,
     from: FromTable<'x>,
     analysed_delete: &AnalysedDelete,
 ) -> Result<Effect, Refusal>
-    ensures { Answers S.state S.after (spec.delete_as role_privileges.now role.now from.entry.name.now from.entry.table.now analysed_delete.now) source.old source.new read_set.old read_set.new result }
+    ensures { Answers (spec.delete_as role_privileges.now role.now from.entry.name.now from.entry.table.now analysed_delete.now) asker.old asker.new result }
 {
-    let expansion = expansion(
-        alloc,
-        source,
-        read_set,
-        role_privileges,
-        from,
-        analysed_delete,
-    )?;
+    let expansion = expansion(asker, role_privileges, from, analysed_delete)?;
     let deleted = delete_with_quals(
-        alloc,
-        source,
-        read_set,
+        asker,
         role_privileges,
         &expansion,
         analysed_delete,
@@ -255,24 +225,20 @@ fn delete_as<'c, 'x, S: RowSource<'c>>(
 }
 
 /// The policy expansion.
-fn expansion<'c, 'x, S: RowSource<'c>>(
-    alloc: Global,
-    source: &mut S,
-    read_set: &mut Reads,
+fn expansion<'c, 'x>(
+    asker: &mut Asker<'c>,
     role_privileges: &RolePrivileges,
     from: FromTable<'x>,
     analysed_delete: &AnalysedDelete,
 ) -> Result<PolicyExpansion<'c>, Refusal>
-    ensures { Answers S.state S.after (expansion_of role_privileges.now from.entry.name.now from.entry.table.now Kind.Delete (spec_has_some (spec.delete_columns from.entry.table.now analysed_delete.now)) (tables_if analysed_delete.now.condition)) source.old source.new read_set.old read_set.new result }
+    ensures { Answers (expansion_of role_privileges.now from.entry.name.now from.entry.table.now Kind.Delete (spec_has_some (spec.delete_columns from.entry.table.now analysed_delete.now)) (tables_if analysed_delete.now.condition)) asker.old asker.new result }
 {
-    let columns = columns_of_delete(alloc, from.table, analysed_delete)?;
+    let columns = columns_of_delete(asker.alloc(), from.table, analysed_delete)?;
     let reads = has_some(columns.as_slice());
     drop(columns);
-    let tables = where_tables(alloc, &analysed_delete.condition)?;
+    let tables = where_tables(asker.alloc(), &analysed_delete.condition)?;
     let expansion = expansion_of(
-        alloc,
-        source,
-        read_set,
+        asker,
         role_privileges,
         from,
         Kind::Delete,
@@ -285,32 +251,21 @@ fn expansion<'c, 'x, S: RowSource<'c>>(
 
 /// The rows, where the role may delete them.
 #[tactic(auto, unfolding(crate::specs::Deleting::delete_with_quals))]
-fn delete_with_quals<'c, 'x, S: RowSource<'c>>(
-    alloc: Global,
-    source: &mut S,
-    read_set: &mut Reads,
+fn delete_with_quals<'c, 'x>(
+    asker: &mut Asker<'c>,
     role_privileges: &RolePrivileges,
     expansion: &PolicyExpansion<'c>,
     analysed_delete: &AnalysedDelete,
     role: &Name,
     from: FromTable<'x>,
 ) -> Result<Effect, Refusal>
-    ensures { Answers S.state S.after (spec.delete_with_quals role_privileges.now expansion.now analysed_delete.now role.now from.entry.name.now from.entry.table.now) source.old source.new read_set.old read_set.new result }
+    ensures { Answers (spec.delete_with_quals role_privileges.now expansion.now analysed_delete.now role.now from.entry.name.now from.entry.table.now) asker.old asker.new result }
 {
-    let checks = checks(alloc, from, expansion, analysed_delete)?;
-    require_all(alloc, source, read_set, role_privileges, checks)?;
-    let rows = scanned_rows(
-        alloc,
-        source,
-        read_set,
-        role,
-        from,
-        &analysed_delete.condition,
-    )?;
+    let checks = checks(asker.alloc(), from, expansion, analysed_delete)?;
+    require_all(asker, role_privileges, checks)?;
+    let rows = scanned_rows(asker, role, from, &analysed_delete.condition)?;
     let deleted = delete_qualifying_rows(
-        alloc,
-        source,
-        read_set,
+        asker,
         from.name,
         &*expansion,
         &*analysed_delete,
@@ -349,29 +304,25 @@ fn checks<'c, 'x>(
 
 /// Judges each scanned row; those that are allowed and meet the condition go.
 #[tactic(auto, unfolding(crate::specs::Deleting::delete_qualifying_rows))]
-fn delete_qualifying_rows<'a, 'c, S: RowSource<'c>>(
-    alloc: Global,
-    source: &mut S,
-    read_set: &mut Reads,
+fn delete_qualifying_rows<'a, 'c>(
+    asker: &mut Asker<'c>,
     name: &Name,
     expansion: &'a PolicyExpansion<'c>,
     analysed_delete: &'a AnalysedDelete,
     role: &'a Name,
     scanned_rows: &'a [BorrowedRow<'c>],
 ) -> Result<Effect, AllocError>
-    ensures { Tells S.state S.after (spec.delete_qualifying_rows role.now name.now expansion.now analysed_delete.now scanned_rows.now) source.old source.new read_set.old read_set.new result }
+    ensures { Tells (spec.delete_qualifying_rows role.now name.now expansion.now analysed_delete.now scanned_rows.now) asker.old asker.new result }
 {
     let (decisions, qualifying_rows) = qualifying_rows_under(
-        alloc,
-        source,
-        read_set,
+        asker,
         expansion,
         role,
         &analysed_delete.condition,
         scanned_rows,
     )?;
     deleted(
-        alloc,
+        asker.alloc(),
         name,
         analysed_delete,
         role,

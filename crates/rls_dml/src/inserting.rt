@@ -25,84 +25,58 @@ use rls_guard::rls_catalog::{Change, Delta, Keyed, RowChange, Stored};
 use rls_guard::rls_source::{Reads, RowSource, table_named};
 use rls_guard::{Ctx, Decision, Effect, PermissionCheck, RolePrivileges, role_privileges_of};
 use rls_judging::tuples_of;
+use rls_source::Asker;
 use rls_statement::{Insert, Selected};
 use rls_value::{Items, Kind, Name, Privilege, Refusal, Row, RowId, Value};
 use std::alloc::{AllocError, Global};
 
 /// Adds the rows of the tuples.
-pub fn run_insert<'c, S: RowSource<'c>>(
-    alloc: Global,
-    source: &mut S,
-    read_set: &mut Reads,
-    ctx: &Ctx,
-    insert: &Insert,
-) -> Result<Effect, Refusal>
-    ensures { Answers S.state S.after (spec.insert ctx.now insert.now) source.old source.new read_set.old read_set.new result }
+pub fn run_insert(asker: &mut Asker, ctx: &Ctx, insert: &Insert) -> Result<Effect, Refusal>
+    ensures { Answers (spec.insert ctx.now insert.now) asker.old asker.new result }
 {
-    let table = table_named(alloc, source, read_set, &insert.table)?;
+    let table = asker.table_named(&insert.table)?;
     let from = FromTable {
         name: &insert.table,
         table,
     };
-    let analysed_insert = known_analysed_insert(alloc, source, read_set, ctx, insert, table)?;
-    let inserted = insert_into(alloc, source, read_set, ctx, from, &analysed_insert);
+    let analysed_insert = known_analysed_insert(asker, ctx, insert, table)?;
+    let inserted = insert_into(asker, ctx, from, &analysed_insert);
     drop(analysed_insert);
     inserted
 }
 
 /// Who the role is, and then the rows.
 #[tactic(auto, unfolding(crate::specs::Inserting::insert_into))]
-fn insert_into<'c, 'x, S: RowSource<'c>>(
-    alloc: Global,
-    source: &mut S,
-    read_set: &mut Reads,
+fn insert_into<'x>(
+    asker: &mut Asker,
     ctx: &Ctx,
     from: FromTable<'x>,
     analysed_insert: &AnalysedInsert,
 ) -> Result<Effect, Refusal>
     requires { ctx.now.next + length analysed_insert.now.tuples ≤ 4294967295 }
-    ensures { Answers S.state S.after (spec.insert_into ctx.now from.entry.name.now from.entry.table.now analysed_insert.now) source.old source.new read_set.old read_set.new result }
+    ensures { Answers (spec.insert_into ctx.now from.entry.name.now from.entry.table.now analysed_insert.now) asker.old asker.new result }
 {
-    let role_privileges = role_privileges_of(alloc, source, read_set, &ctx.role)?;
-    let inserted = insert_as(
-        alloc,
-        source,
-        read_set,
-        ctx,
-        from,
-        &role_privileges,
-        analysed_insert,
-    );
+    let role_privileges = role_privileges_of(asker, &ctx.role)?;
+    let inserted = insert_as(asker, ctx, from, &role_privileges, analysed_insert);
     drop(role_privileges);
     inserted
 }
 
 /// The policy expansion, and then the new rows.
 #[tactic(auto, unfolding(crate::specs::Inserting::insert_as))]
-fn insert_as<'c, 'x, S: RowSource<'c>>(
-    alloc: Global,
-    source: &mut S,
-    read_set: &mut Reads,
+fn insert_as<'x>(
+    asker: &mut Asker,
     ctx: &Ctx,
     from: FromTable<'x>,
     role_privileges: &RolePrivileges,
     analysed_insert: &AnalysedInsert,
 ) -> Result<Effect, Refusal>
     requires { ctx.now.next + length analysed_insert.now.tuples ≤ 4294967295 }
-    ensures { Answers S.state S.after (spec.insert_as ctx.now from.entry.name.now from.entry.table.now role_privileges.now analysed_insert.now) source.old source.new read_set.old read_set.new result }
+    ensures { Answers (spec.insert_as ctx.now from.entry.name.now from.entry.table.now role_privileges.now analysed_insert.now) asker.old asker.new result }
 {
-    let expansion = expansion(
-        alloc,
-        source,
-        read_set,
-        role_privileges,
-        from,
-        analysed_insert,
-    )?;
+    let expansion = expansion(asker, role_privileges, from, analysed_insert)?;
     let inserted = insert_with_quals(
-        alloc,
-        source,
-        read_set,
+        asker,
         ctx,
         from,
         role_privileges,
@@ -114,24 +88,20 @@ fn insert_as<'c, 'x, S: RowSource<'c>>(
 }
 
 /// The policy expansion of the new rows.
-fn expansion<'c, 'x, S: RowSource<'c>>(
-    alloc: Global,
-    source: &mut S,
-    read_set: &mut Reads,
+fn expansion<'c, 'x>(
+    asker: &mut Asker<'c>,
     role_privileges: &RolePrivileges,
     from: FromTable<'x>,
     analysed_insert: &AnalysedInsert,
 ) -> Result<PolicyExpansion<'c>, Refusal>
-    ensures { Answers S.state S.after (expansion_of role_privileges.now from.entry.name.now from.entry.table.now Kind.Insert (spec_has_some (spec.insert_columns_read from.entry.table.now analysed_insert.now)) (spec.tuples_tables analysed_insert.now.tuples)) source.old source.new read_set.old read_set.new result }
+    ensures { Answers (expansion_of role_privileges.now from.entry.name.now from.entry.table.now Kind.Insert (spec_has_some (spec.insert_columns_read from.entry.table.now analysed_insert.now)) (spec.tuples_tables analysed_insert.now.tuples)) asker.old asker.new result }
 {
-    let columns = columns_returned(alloc, from.table, analysed_insert)?;
+    let columns = columns_returned(asker.alloc(), from.table, analysed_insert)?;
     let reads = has_some(columns.as_slice());
     drop(columns);
-    let tables = tuples_tables(alloc, analysed_insert.tuples.as_slice())?;
+    let tables = tuples_tables(asker.alloc(), analysed_insert.tuples.as_slice())?;
     let expansion = expansion_of(
-        alloc,
-        source,
-        read_set,
+        asker,
         role_privileges,
         from,
         Kind::Insert,
@@ -155,10 +125,8 @@ fn tuples_tables(alloc: Global, tuples: &[Items<Expr>]) -> Result<Items<Name>, A
 
 /// The privileges, the values, and then the rows.
 #[tactic(auto, unfolding(crate::specs::Inserting::insert_with_quals))]
-fn insert_with_quals<'c, 'x, S: RowSource<'c>>(
-    alloc: Global,
-    source: &mut S,
-    read_set: &mut Reads,
+fn insert_with_quals<'c, 'x>(
+    asker: &mut Asker<'c>,
     ctx: &Ctx,
     from: FromTable<'x>,
     role_privileges: &RolePrivileges,
@@ -166,19 +134,11 @@ fn insert_with_quals<'c, 'x, S: RowSource<'c>>(
     analysed_insert: &AnalysedInsert,
 ) -> Result<Effect, Refusal>
     requires { ctx.now.next + length analysed_insert.now.tuples ≤ 4294967295 }
-    ensures { Answers S.state S.after (spec.insert_with_quals ctx.now from.entry.name.now from.entry.table.now role_privileges.now expansion.now analysed_insert.now) source.old source.new read_set.old read_set.new result }
+    ensures { Answers (spec.insert_with_quals ctx.now from.entry.name.now from.entry.table.now role_privileges.now expansion.now analysed_insert.now) asker.old asker.new result }
 {
-    let checks = checks(alloc, from, expansion, analysed_insert)?;
-    require_all(alloc, source, read_set, role_privileges, checks)?;
-    insert_values(
-        alloc,
-        source,
-        read_set,
-        &*ctx,
-        from,
-        &*expansion,
-        &*analysed_insert,
-    )
+    let checks = checks(asker.alloc(), from, expansion, analysed_insert)?;
+    require_all(asker, role_privileges, checks)?;
+    insert_values(asker, &*ctx, from, &*expansion, &*analysed_insert)
 }
 
 /// What the role is asked for.
@@ -260,48 +220,33 @@ fn columns_returned(
 
 /// The values of the tuples, their ranges, and then the rows.
 #[tactic(auto, unfolding(crate::specs::Inserting::insert_values))]
-fn insert_values<'a, 'c, 'x, S: RowSource<'c>>(
-    alloc: Global,
-    source: &mut S,
-    read_set: &mut Reads,
+fn insert_values<'a, 'c, 'x>(
+    asker: &mut Asker<'c>,
     ctx: &'a Ctx,
     from: FromTable<'x>,
     expansion: &'a PolicyExpansion<'c>,
     analysed_insert: &'a AnalysedInsert,
 ) -> Result<Effect, Refusal>
     requires { ctx.now.next + length analysed_insert.now.tuples ≤ 4294967295 }
-    ensures { Answers S.state S.after (spec.insert_values ctx.now from.entry.name.now from.entry.table.now expansion.now analysed_insert.now) source.old source.new read_set.old read_set.new result }
+    ensures { Answers (spec.insert_values ctx.now from.entry.name.now from.entry.table.now expansion.now analysed_insert.now) asker.old asker.new result }
 {
-    let values = tuples_under(alloc, source, read_set, ctx, expansion, analysed_insert)?;
-    let inserted = insert_made(
-        alloc,
-        source,
-        read_set,
-        ctx,
-        from,
-        expansion,
-        analysed_insert,
-        &values,
-    );
+    let values = tuples_under(asker, ctx, expansion, analysed_insert)?;
+    let inserted = insert_made(asker, ctx, from, expansion, analysed_insert, &values);
     drop(values);
     inserted
 }
 
 /// The values of the tuples.
-fn tuples_under<'a, 'c, S: RowSource<'c>>(
-    alloc: Global,
-    source: &mut S,
-    read_set: &mut Reads,
+fn tuples_under<'a, 'c>(
+    asker: &mut Asker<'c>,
     ctx: &'a Ctx,
     expansion: &'a PolicyExpansion<'c>,
     analysed_insert: &'a AnalysedInsert,
 ) -> Result<Vec<Vec<Datum<'a>>>, AllocError>
-    ensures { Tells S.state S.after (tuples_of expansion.now.relations ctx.now.role analysed_insert.now.tuples) source.old source.new read_set.old read_set.new (datum_values_each result) }
+    ensures { Tells (tuples_of expansion.now.relations ctx.now.role analysed_insert.now.tuples) asker.old asker.new (datum_values_each result) }
 {
     tuples_of(
-        alloc,
-        source,
-        read_set,
+        asker,
         expansion.relations.as_slice(),
         &ctx.role,
         analysed_insert.tuples.as_slice(),
@@ -310,10 +255,8 @@ fn tuples_under<'a, 'c, S: RowSource<'c>>(
 
 /// The ranges of the values, and then the rows.
 #[tactic(auto, unfolding(crate::specs::Inserting::insert_made))]
-fn insert_made<'c, 'x, S: RowSource<'c>>(
-    alloc: Global,
-    source: &mut S,
-    read_set: &mut Reads,
+fn insert_made<'c, 'x>(
+    asker: &mut Asker<'c>,
     ctx: &Ctx,
     from: FromTable<'x>,
     expansion: &PolicyExpansion<'c>,
@@ -321,19 +264,10 @@ fn insert_made<'c, 'x, S: RowSource<'c>>(
     values: &[Vec<Datum>],
 ) -> Result<Effect, Refusal>
     requires { ctx.now.next + length analysed_insert.now.tuples ≤ 4294967295 }
-    ensures { Answers S.state S.after (spec.insert_made ctx.now from.entry.name.now from.entry.table.now expansion.now analysed_insert.now (map datum_values values.now)) source.old source.new read_set.old read_set.new result }
+    ensures { Answers (spec.insert_made ctx.now from.entry.name.now from.entry.table.now expansion.now analysed_insert.now (map datum_values values.now)) asker.old asker.new result }
 {
-    let rows = new_rows(alloc, ctx, from.table, analysed_insert, values)?;
-    Ok(insert_rows(
-        alloc,
-        source,
-        read_set,
-        &ctx.role,
-        from,
-        &*expansion,
-        analysed_insert,
-        rows,
-    )?)
+    let rows = new_rows(asker.alloc(), ctx, from.table, analysed_insert, values)?;
+    Ok(insert_rows(asker, &ctx.role, from, &*expansion, analysed_insert, rows)?)
 }
 
 /// The rows of the tuples, whose values are in range, with their numbers.
@@ -424,56 +358,41 @@ fn numbered(
 
 /// Each new row is judged, and then all are put in or none.
 #[tactic(auto, unfolding(crate::specs::Inserting::insert_rows))]
-fn insert_rows<'a, 'c, 'x, S: RowSource<'c>>(
-    alloc: Global,
-    source: &mut S,
-    read_set: &mut Reads,
+fn insert_rows<'a, 'c, 'x>(
+    asker: &mut Asker<'c>,
     role: &'a Name,
     from: FromTable<'x>,
     expansion: &'a PolicyExpansion<'c>,
     analysed_insert: &AnalysedInsert,
     rows: Items<Stored>,
 ) -> Result<Effect, AllocError>
-    ensures { Tells S.state S.after (spec.insert_rows role.now from.entry.name.now from.entry.table.now expansion.now analysed_insert.now rows) source.old source.new read_set.old read_set.new result }
+    ensures { Tells (spec.insert_rows role.now from.entry.name.now from.entry.table.now expansion.now analysed_insert.now rows) asker.old asker.new result }
 {
-    let decisions = judged_under(alloc, source, read_set, &*expansion, &*role, &rows)?;
-    insert_judged(
-        alloc,
-        source,
-        read_set,
-        role,
-        from,
-        analysed_insert,
-        rows,
-        decisions,
-    )
+    let decisions = judged_under(asker, &*expansion, &*role, &rows)?;
+    insert_judged(asker, role, from, analysed_insert, rows, decisions)
 }
 
 /// Where none of the new rows is refused, all are put in.
 #[tactic(auto, unfolding(crate::specs::Inserting::insert_judged))]
-fn insert_judged<'c, 'x, S: RowSource<'c>>(
-    alloc: Global,
-    source: &mut S,
-    read_set: &mut Reads,
+fn insert_judged<'x>(
+    asker: &mut Asker,
     role: &Name,
     from: FromTable<'x>,
     analysed_insert: &AnalysedInsert,
     rows: Items<Stored>,
     decisions: Vec<Decision>,
 ) -> Result<Effect, AllocError>
-    ensures { Tells S.state S.after (spec.insert_judged role.now from.entry.name.now from.entry.table.now analysed_insert.now rows decisions.items) source.old source.new read_set.old read_set.new result }
+    ensures { Tells (spec.insert_judged role.now from.entry.name.now from.entry.table.now analysed_insert.now rows decisions.items) asker.old asker.new result }
 {
     match require_inserted(
-        alloc,
-        source,
-        read_set,
+        asker,
         from,
         analysed_insert.places.as_slice(),
         &decisions,
         rows.as_slice(),
     ) {
         Ok(()) => inserted(
-            alloc,
+            asker.alloc(),
             from.name,
             &analysed_insert.returning,
             role,
@@ -486,22 +405,18 @@ fn insert_judged<'c, 'x, S: RowSource<'c>>(
 }
 
 /// What the new rows are refused for.
-fn require_inserted<'c, 'x, S: RowSource<'c>>(
-    alloc: Global,
-    source: &mut S,
-    read_set: &mut Reads,
+fn require_inserted<'x>(
+    asker: &mut Asker,
     from: FromTable<'x>,
     places: &[usize],
     decisions: &[Decision],
     rows: &[Stored],
 ) -> Result<(), Refusal>
-    ensures { Answers S.state S.after (rows_or_refused from.entry.name.now from.entry.table.now.columns (spec_order_of places.now from.entry.table.now.columns) decisions.now [] rows.now) source.old source.new read_set.old read_set.new result }
+    ensures { Answers (rows_or_refused from.entry.name.now from.entry.table.now.columns (spec_order_of places.now from.entry.table.now.columns) decisions.now [] rows.now) asker.old asker.new result }
 {
-    let order = order_of(alloc, places, from.table.columns.as_slice())?;
+    let order = order_of(asker.alloc(), places, from.table.columns.as_slice())?;
     let replaced = Replaced::new(&[], false);
-    let found = require_rows(
-        alloc, source, read_set, from, &order, decisions, &replaced, rows,
-    );
+    let found = require_rows(asker, from, &order, decisions, &replaced, rows);
     drop(order);
     found
 }

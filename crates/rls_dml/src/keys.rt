@@ -1,16 +1,18 @@
 //! The primary keys of new rows.
 
-ghost use Rattle.std.specs.Prelude.{◌≡◌, ◌++◌, map, false, IfOk, OnOk, IsTrue};
+ghost use Rattle.std.specs.Prelude.{◌≡◌, map, false, IfOk, OnOk, IsTrue};
 ghost use Rattle.std.specs.List.{list_any};
 ghost use Rattle.rls_value.specs.Values.{is_null, value_at};
 ghost use Rattle.rls_guard.specs.rls_catalog.specs.State.{rows_of};
 ghost use Rattle.rls_guard.specs.rls_source.specs.Answering.{Answers, Tells};
+ghost use Rattle.rls_source.specs.Answering.{having_read};
 ghost use Rattle.rls_dml.specs.Writing as spec;
 ghost use Rattle.rls_dml.specs.Writing.{unique_or_refused, keys_taken, has_doubles};
 
 use crate::replaced::{Numbers, Replaced};
 use rls_guard::rls_catalog::{BorrowedRow, Stored};
-use rls_guard::rls_source::{Reads, RowSource, noted_key};
+use rls_catalog::Catalog;
+use rls_source::Asker;
 use rls_value::{Name, Object, Refusal, Row, Value, cmp_values};
 use std::alloc::{AllocError, Global};
 use std::cmp::Ordering;
@@ -69,19 +71,17 @@ fn is_value_at(value: &Value, row: &Row, place: usize) -> bool
 }
 
 /// Refused where a key is that of a row that stays, or of two new rows. A key with a null is nobody's.
-pub fn require_unique<'c, S: RowSource<'c>>(
-    alloc: Global,
-    source: &mut S,
-    read_set: &mut Reads,
+pub fn require_unique<'c>(
+    asker: &mut Asker<'c>,
     name: &Name,
     replaced: &Replaced<'_, 'c>,
     rows: &[Stored],
 ) -> Result<(), Refusal>
-    ensures { Answers S.state S.after (unique_or_refused name.now replaced.now (spec.keys_of rows.now)) source.old source.new read_set.old read_set.new result }
+    ensures { Answers (unique_or_refused name.now replaced.now (spec.keys_of rows.now)) asker.old asker.new result }
 {
-    let keys = whole_keys(alloc, rows)?;
-    let taken = are_taken(alloc, source, read_set, name, replaced, &keys)?;
-    if taken || have_doubles(alloc, &keys)? {
+    let keys = whole_keys(asker.alloc(), rows)?;
+    let taken = are_taken(asker, name, replaced, &keys)?;
+    if taken || have_doubles(asker.alloc(), &keys)? {
         return Err(Refusal::Unique(name.copy()?));
     }
     Ok(())
@@ -118,24 +118,22 @@ fn have_null(values: &[Value]) -> bool
 
 /// Whether a row of the table that stays has one of the keys. All are read; where no row stays none has to be looked up.
 #[tactic(auto, using(crate::proofs::StayingLemmas::none_taken_gives, crate::proofs::StayingLemmas::none_taken_reads))]
-fn are_taken<'c, S: RowSource<'c>>(
-    alloc: Global,
-    source: &mut S,
-    read_set: &mut Reads,
+fn are_taken<'c>(
+    asker: &mut Asker<'c>,
     name: &Name,
     replaced: &Replaced<'_, 'c>,
     keys: &[Row],
 ) -> Result<bool, AllocError>
-    ensures { Tells S.state S.after (keys_taken name.now replaced.now keys.now) source.old source.new read_set.old read_set.new result }
+    ensures { Tells (keys_taken name.now replaced.now keys.now) asker.old asker.new result }
 {
     if let [] = keys {
         Ok(false)
-    } else if none_stays(alloc, &*source, name, &*replaced)? {
-        read_keys(alloc, source, read_set, name, keys)?;
+    } else if none_stays(asker.alloc(), asker.catalog(), name, replaced)? {
+        read_keys(asker, name, keys)?;
         Ok(false)
     } else {
-        let numbers = replaced.numbers(alloc)?;
-        let taken = have_taken(alloc, source, read_set, name, &numbers, keys);
+        let numbers = replaced.numbers(asker.alloc())?;
+        let taken = have_taken(asker, name, &numbers, keys);
         drop(numbers);
         taken
     }
@@ -143,16 +141,16 @@ fn are_taken<'c, S: RowSource<'c>>(
 
 /// Whether no row of the table stays, where that is seen at a look at the table, which is no read.
 #[tactic(auto, using(crate::proofs::StayingLemmas::none_of_those))]
-fn none_stays<'c, S: RowSource<'c>>(
+fn none_stays<'c>(
     alloc: Global,
-    source: &S,
+    catalog: &'c Catalog,
     name: &Name,
     replaced: &Replaced<'_, 'c>,
 ) -> Result<bool, AllocError>
-    ensures { IfOk result (λ none. IsTrue none → spec.stays_any replaced.now (rows_of (S.state source.now) name.now) ≡ false) }
+    ensures { IfOk result (λ none. IsTrue none → spec.stays_any replaced.now (rows_of catalog.now name.now) ≡ false) }
 {
     if replaced.may_be_all() {
-        let rows = source.look(alloc, name)?;
+        let rows = catalog.rows(alloc, name)?;
         Ok(replaced.are_numbered_as(rows.as_slice()))
     } else {
         Ok(false)
@@ -160,20 +158,11 @@ fn none_stays<'c, S: RowSource<'c>>(
 }
 
 /// Reads the keys without a look-up.
-fn read_keys<'c, S: RowSource<'c>>(
-    alloc: Global,
-    source: &mut S,
-    read_set: &mut Reads,
-    name: &Name,
-    keys: &[Row],
-) -> Result<(), AllocError>
-    ensures noted { OnOk result (read_set.new ≡ read_set.old ++ spec.keys_read name.now keys.now) }
-    ensures read { OnOk result (source.new ≡ S.after source.old (spec.keys_read name.now keys.now)) }
-    ensures state { S.state source.new ≡ S.state source.old }
+fn read_keys(asker: &mut Asker, name: &Name, keys: &[Row]) -> Result<(), AllocError>
+    ensures { OnOk result (asker.new ≡ having_read asker.old (spec.keys_read name.now keys.now)) }
 {
-    let objects = key_objects(alloc, name, keys)?;
-    source.mark(alloc, &objects)?;
-    read_set.note_all(objects)
+    let objects = key_objects(asker.alloc(), name, keys)?;
+    asker.note_all(objects)
 }
 
 fn key_objects(alloc: Global, name: &Name, keys: &[Row]) -> Result<Vec<Object>, AllocError>
@@ -200,19 +189,17 @@ fn key_object(alloc: Global, name: &Name, key: &Row) -> Result<Object, AllocErro
 }
 
 /// Whether a row of the table that stays has one of the keys. All are looked up.
-fn have_taken<'c, S: RowSource<'c>>(
-    alloc: Global,
-    source: &mut S,
-    read_set: &mut Reads,
+fn have_taken<'c>(
+    asker: &mut Asker<'c>,
     name: &Name,
     replaced: &Numbers<'_, 'c>,
     keys: &[Row],
 ) -> Result<bool, AllocError>
-    ensures { Tells S.state S.after (keys_taken name.now replaced.now keys.now) source.old source.new read_set.old read_set.new result }
+    ensures { Tells (keys_taken name.now replaced.now keys.now) asker.old asker.new result }
 {
     let mut taken = false;
     for key in keys {
-        let found = noted_key(alloc, source, read_set, name, key)?;
+        let found = asker.by_key(name, key)?;
         taken = taken || stays_any(replaced, found.as_slice());
     }
     Ok(taken)

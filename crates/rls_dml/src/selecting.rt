@@ -25,6 +25,7 @@ use rls_guard::{
     Ctx, Decision, Effect, Found, PermissionCheck, RolePrivileges, named_over, role_privileges_of,
 };
 use rls_judging::scanned_rows;
+use rls_source::Asker;
 use rls_statement::{Select, Selected};
 use rls_value::{Items, Kind, Name, Privilege, Refusal, Row};
 use std::alloc::{AllocError, Global};
@@ -39,52 +40,42 @@ pub struct AnalysedSelect<'c> {
 }
 
 /// The rows that the role sees and that meet the condition, in listing order, or how many they are.
-pub fn run_select<'c, S: RowSource<'c>>(
-    alloc: Global,
-    source: &mut S,
-    read_set: &mut Reads,
-    ctx: &Ctx,
-    select: &Select,
-) -> Result<Effect, Refusal>
-    ensures { Answers S.state S.after (spec.select ctx.now select.now) source.old source.new read_set.old read_set.new result }
+pub fn run_select(asker: &mut Asker, ctx: &Ctx, select: &Select) -> Result<Effect, Refusal>
+    ensures { Answers (spec.select ctx.now select.now) asker.old asker.new result }
 {
-    let table = table_named(alloc, source, read_set, &select.table)?;
+    let table = asker.table_named(&select.table)?;
     let from = FromTable {
         name: &select.table,
         table,
     };
-    let analysed_select = known_analysed_select(alloc, source, read_set, select, table)?;
-    let listed = select_from(alloc, source, read_set, &ctx.role, from, &analysed_select);
+    let analysed_select = known_analysed_select(asker, select, table)?;
+    let listed = select_from(asker, &ctx.role, from, &analysed_select);
     drop(analysed_select);
     listed
 }
 
 /// The parts of the statement, over the table under its qualifier.
-fn known_analysed_select<'c, S: RowSource<'c>>(
-    alloc: Global,
-    source: &mut S,
-    read_set: &mut Reads,
+fn known_analysed_select<'c>(
+    asker: &mut Asker<'c>,
     select: &Select,
     table: &'c TableDef,
 ) -> Result<AnalysedSelect<'c>, Refusal>
-    ensures { Answers S.state S.after (spec.analysed_select_for select.now (spec.qualifier_of select.now, table.now)) source.old source.new read_set.old read_set.new result }
+    ensures { Answers (spec.analysed_select_for select.now (spec.qualifier_of select.now, table.now)) asker.old asker.new result }
 {
-    let found = found_for(alloc, source, read_set, select, table)?;
-    check_analysed_select(alloc, select, table, found)
+    let found = found_for(asker, select, table)?;
+    check_analysed_select(asker.alloc(), select, table, found)
 }
 
 /// Looks for the names of the items and of the condition.
-fn found_for<'c, S: RowSource<'c>>(
-    alloc: Global,
-    source: &mut S,
-    read_set: &mut Reads,
+fn found_for<'c>(
+    asker: &mut Asker<'c>,
     select: &Select,
     table: &'c TableDef,
 ) -> Result<Found<'c>, Refusal>
-    ensures { Answers S.state S.after (named (spec.analysed_select_names select.now) ((spec.qualifier_of select.now, table.now) ∷ []) []) source.old source.new read_set.old read_set.new result }
+    ensures { Answers (named (spec.analysed_select_names select.now) ((spec.qualifier_of select.now, table.now) ∷ []) []) asker.old asker.new result }
 {
-    let steps = names_of(alloc, select)?;
-    let found = named_over(alloc, source, read_set, &steps, qualifier(select), table);
+    let steps = names_of(asker.alloc(), select)?;
+    let found = named_over(asker, &steps, qualifier(select), table);
     drop(steps);
     found
 }
@@ -182,55 +173,34 @@ fn require_analysed_select(analysed_select: &AnalysedSelect) -> Result<(), Refus
 
 /// The role's privileges, the policy expansion, and the rows.
 #[tactic(auto, unfolding(crate::specs::Selecting::select_from))]
-fn select_from<'c, 'x, S: RowSource<'c>>(
-    alloc: Global,
-    source: &mut S,
-    read_set: &mut Reads,
+fn select_from<'x>(
+    asker: &mut Asker,
     role: &Name,
     from: FromTable<'x>,
     analysed_select: &AnalysedSelect,
 ) -> Result<Effect, Refusal>
-    ensures { Answers S.state S.after (spec.select_from role.now from.entry.name.now from.entry.table.now analysed_select.now) source.old source.new read_set.old read_set.new result }
+    ensures { Answers (spec.select_from role.now from.entry.name.now from.entry.table.now analysed_select.now) asker.old asker.new result }
 {
-    let role_privileges = role_privileges_of(alloc, source, read_set, role)?;
-    let listed = select_as(
-        alloc,
-        source,
-        read_set,
-        &role_privileges,
-        role,
-        from,
-        analysed_select,
-    );
+    let role_privileges = role_privileges_of(asker, role)?;
+    let listed = select_as(asker, &role_privileges, role, from, analysed_select);
     drop(role_privileges);
     listed
 }
 
 /// The policy expansion, and the rows.
 #[tactic(auto, unfolding(crate::specs::Selecting::select_as))]
-fn select_as<'c, 'x, S: RowSource<'c>>(
-    alloc: Global,
-    source: &mut S,
-    read_set: &mut Reads,
+fn select_as<'x>(
+    asker: &mut Asker,
     role_privileges: &RolePrivileges,
     role: &Name,
     from: FromTable<'x>,
     analysed_select: &AnalysedSelect,
 ) -> Result<Effect, Refusal>
-    ensures { Answers S.state S.after (spec.select_as role_privileges.now role.now from.entry.name.now from.entry.table.now analysed_select.now) source.old source.new read_set.old read_set.new result }
+    ensures { Answers (spec.select_as role_privileges.now role.now from.entry.name.now from.entry.table.now analysed_select.now) asker.old asker.new result }
 {
-    let expansion = expansion(
-        alloc,
-        source,
-        read_set,
-        role_privileges,
-        from,
-        analysed_select,
-    )?;
+    let expansion = expansion(asker, role_privileges, from, analysed_select)?;
     let listed = list_with_quals(
-        alloc,
-        source,
-        read_set,
+        asker,
         role_privileges,
         &expansion,
         analysed_select,
@@ -242,21 +212,17 @@ fn select_as<'c, 'x, S: RowSource<'c>>(
 }
 
 /// The policy expansion.
-fn expansion<'c, 'x, S: RowSource<'c>>(
-    alloc: Global,
-    source: &mut S,
-    read_set: &mut Reads,
+fn expansion<'c, 'x>(
+    asker: &mut Asker<'c>,
     role_privileges: &RolePrivileges,
     from: FromTable<'x>,
     analysed_select: &AnalysedSelect,
 ) -> Result<PolicyExpansion<'c>, Refusal>
-    ensures { Answers S.state S.after (expansion_of role_privileges.now from.entry.name.now from.entry.table.now Kind.Select false (tables_if analysed_select.now.condition)) source.old source.new read_set.old read_set.new result }
+    ensures { Answers (expansion_of role_privileges.now from.entry.name.now from.entry.table.now Kind.Select false (tables_if analysed_select.now.condition)) asker.old asker.new result }
 {
-    let tables = where_tables(alloc, &analysed_select.condition)?;
+    let tables = where_tables(asker.alloc(), &analysed_select.condition)?;
     let expansion = expansion_of(
-        alloc,
-        source,
-        read_set,
+        asker,
         role_privileges,
         from,
         Kind::Select,
@@ -269,32 +235,21 @@ fn expansion<'c, 'x, S: RowSource<'c>>(
 
 /// The rows, where the role may read the table.
 #[tactic(auto, unfolding(crate::specs::Selecting::listed_for))]
-fn list_with_quals<'c, 'x, S: RowSource<'c>>(
-    alloc: Global,
-    source: &mut S,
-    read_set: &mut Reads,
+fn list_with_quals<'c, 'x>(
+    asker: &mut Asker<'c>,
     role_privileges: &RolePrivileges,
     expansion: &PolicyExpansion<'c>,
     analysed_select: &AnalysedSelect,
     role: &Name,
     from: FromTable<'x>,
 ) -> Result<Effect, Refusal>
-    ensures { Answers S.state S.after (spec.listed_for role_privileges.now expansion.now analysed_select.now role.now from.entry.name.now from.entry.table.now) source.old source.new read_set.old read_set.new result }
+    ensures { Answers (spec.listed_for role_privileges.now expansion.now analysed_select.now role.now from.entry.name.now from.entry.table.now) asker.old asker.new result }
 {
-    let checks = checks(alloc, from, expansion, analysed_select)?;
-    require_all(alloc, source, read_set, role_privileges, checks)?;
-    let rows = scanned_rows(
-        alloc,
-        source,
-        read_set,
-        role,
-        from,
-        &analysed_select.condition,
-    )?;
+    let checks = checks(asker.alloc(), from, expansion, analysed_select)?;
+    require_all(asker, role_privileges, checks)?;
+    let rows = scanned_rows(asker, role, from, &analysed_select.condition)?;
     let listed = list(
-        alloc,
-        source,
-        read_set,
+        asker,
         &*expansion,
         &*analysed_select,
         &*role,
@@ -347,27 +302,29 @@ fn mentioned(
 
 /// Judges each scanned row, and answers from those that are allowed and meet the condition.
 #[tactic(auto, unfolding(crate::specs::Selecting::listed_from))]
-fn list<'a, 'c, S: RowSource<'c>>(
-    alloc: Global,
-    source: &mut S,
-    read_set: &mut Reads,
+fn list<'a, 'c>(
+    asker: &mut Asker<'c>,
     expansion: &'a PolicyExpansion<'c>,
     analysed_select: &'a AnalysedSelect,
     role: &'a Name,
     scanned_rows: &'a [BorrowedRow<'c>],
 ) -> Result<Effect, AllocError>
-    ensures { Tells S.state S.after (spec.listed_from role.now expansion.now analysed_select.now scanned_rows.now) source.old source.new read_set.old read_set.new result }
+    ensures { Tells (spec.listed_from role.now expansion.now analysed_select.now scanned_rows.now) asker.old asker.new result }
 {
     let (decisions, qualifying_rows) = qualifying_rows_under(
-        alloc,
-        source,
-        read_set,
+        asker,
         expansion,
         role,
         &analysed_select.condition,
         scanned_rows,
     )?;
-    answer(alloc, analysed_select, role, decisions, &qualifying_rows)
+    answer(
+        asker.alloc(),
+        analysed_select,
+        role,
+        decisions,
+        &qualifying_rows,
+    )
 }
 
 /// The answer from the qualifying rows.

@@ -26,85 +26,64 @@ use rls_guard::rls_catalog::{BorrowedRow, Change, Delta, Keyed, RowChange, Store
 use rls_guard::rls_source::{Reads, RowSource, table_named};
 use rls_guard::{Ctx, Decision, Effect, PermissionCheck, RolePrivileges, role_privileges_of};
 use rls_judging::{assignments_of, scanned_rows};
+use rls_source::Asker;
 use rls_statement::Update;
 use rls_value::{Items, Kind, Name, Privilege, Refusal};
 use std::alloc::{AllocError, Global};
 
 /// Changes the rows that row security lets change and that meet the condition. What it hides stays; a new row that it
 /// doesn't allow refuses the statement.
-pub fn run_update<'c, S: RowSource<'c>>(
-    alloc: Global,
-    source: &mut S,
-    read_set: &mut Reads,
-    ctx: &Ctx,
-    update: &Update,
-) -> Result<Effect, Refusal>
-    ensures { Answers S.state S.after (spec.update ctx.now update.now) source.old source.new read_set.old read_set.new result }
+pub fn run_update(asker: &mut Asker, ctx: &Ctx, update: &Update) -> Result<Effect, Refusal>
+    ensures { Answers (spec.update ctx.now update.now) asker.old asker.new result }
 {
-    let table = table_named(alloc, source, read_set, &update.table)?;
+    let table = asker.table_named(&update.table)?;
     let from = FromTable {
         name: &update.table,
         table,
     };
-    let analysed_update = known_analysed_update(alloc, source, read_set, update, table)?;
-    let updated = update_in(alloc, source, read_set, &ctx.role, from, &analysed_update);
+    let analysed_update = known_analysed_update(asker, update, table)?;
+    let updated = update_in(asker, &ctx.role, from, &analysed_update);
     drop(analysed_update);
     updated
 }
 
 /// The role's privileges, the policy expansion, and the rows.
 #[tactic(auto, unfolding(crate::specs::Updating::update_in))]
-fn update_in<'c, 'x, S: RowSource<'c>>(
-    alloc: Global,
-    source: &mut S,
-    read_set: &mut Reads,
+fn update_in<'x>(
+    asker: &mut Asker,
     role: &Name,
     from: FromTable<'x>,
     analysed_update: &AnalysedUpdate,
 ) -> Result<Effect, Refusal>
-    ensures { Answers S.state S.after (spec.update_in role.now from.entry.name.now from.entry.table.now analysed_update.now) source.old source.new read_set.old read_set.new result }
+    ensures { Answers (spec.update_in role.now from.entry.name.now from.entry.table.now analysed_update.now) asker.old asker.new result }
 {
-    let role_privileges = role_privileges_of(alloc, source, read_set, role)?;
-    let updated = update_as(
-        alloc,
-        source,
-        read_set,
-        &role_privileges,
-        role,
-        from,
-        analysed_update,
-    );
+    let role_privileges = role_privileges_of(asker, role)?;
+    let updated = update_as(asker, &role_privileges, role, from, analysed_update);
     drop(role_privileges);
     updated
 }
 
 /// The policy expansion, before and after, and the rows.
 #[tactic(auto, unfolding(crate::specs::Updating::update_as))]
-fn update_as<'c, 'x, S: RowSource<'c>>(
-    alloc: Global,
-    source: &mut S,
-    read_set: &mut Reads,
+fn update_as<'x>(
+    asker: &mut Asker,
     role_privileges: &RolePrivileges,
     role: &Name,
     from: FromTable<'x>,
     analysed_update: &AnalysedUpdate,
 ) -> Result<Effect, Refusal>
-    ensures { Answers S.state S.after (spec.update_as role_privileges.now role.now from.entry.name.now from.entry.table.now analysed_update.now) source.old source.new read_set.old read_set.new result }
+    ensures { Answers (spec.update_as role_privileges.now role.now from.entry.name.now from.entry.table.now analysed_update.now) asker.old asker.new result }
 {
-    let columns_read = columns_of_update(alloc, from.table, analysed_update)?;
+    let columns_read = columns_of_update(asker.alloc(), from.table, analysed_update)?;
     let expansion = expansion(
-        alloc,
-        source,
-        read_set,
+        asker,
         role_privileges,
         from,
         analysed_update,
         has_some(columns_read.as_slice()),
     )?;
     let updated = update_with_quals(
-        alloc,
-        source,
-        read_set,
+        asker,
         role_privileges,
         &expansion,
         analysed_update,
@@ -117,22 +96,18 @@ fn update_as<'c, 'x, S: RowSource<'c>>(
 }
 
 /// The policy expansion.
-fn expansion<'c, 'x, S: RowSource<'c>>(
-    alloc: Global,
-    source: &mut S,
-    read_set: &mut Reads,
+fn expansion<'c, 'x>(
+    asker: &mut Asker<'c>,
     role_privileges: &RolePrivileges,
     from: FromTable<'x>,
     analysed_update: &AnalysedUpdate,
     reads: bool,
 ) -> Result<PolicyExpansion<'c>, Refusal>
-    ensures { Answers S.state S.after (expansion_of role_privileges.now from.entry.name.now from.entry.table.now Kind.Update reads (spec.analysed_update_tables analysed_update.now)) source.old source.new read_set.old read_set.new result }
+    ensures { Answers (expansion_of role_privileges.now from.entry.name.now from.entry.table.now Kind.Update reads (spec.analysed_update_tables analysed_update.now)) asker.old asker.new result }
 {
-    let tables = analysed_update_tables(alloc, analysed_update)?;
+    let tables = analysed_update_tables(asker.alloc(), analysed_update)?;
     let expansion = expansion_of(
-        alloc,
-        source,
-        read_set,
+        asker,
         role_privileges,
         from,
         Kind::Update,
@@ -145,10 +120,8 @@ fn expansion<'c, 'x, S: RowSource<'c>>(
 
 /// The rows, where the role may change them.
 #[tactic(auto, unfolding(crate::specs::Updating::update_with_quals))]
-fn update_with_quals<'c, 'x, S: RowSource<'c>>(
-    alloc: Global,
-    source: &mut S,
-    read_set: &mut Reads,
+fn update_with_quals<'c, 'x>(
+    asker: &mut Asker<'c>,
     role_privileges: &RolePrivileges,
     expansion: &PolicyExpansion<'c>,
     analysed_update: &AnalysedUpdate,
@@ -157,22 +130,13 @@ fn update_with_quals<'c, 'x, S: RowSource<'c>>(
     from: FromTable<'x>,
 ) -> Result<Effect, Refusal>
     requires { columns_read ≡ spec.update_columns_read from.table.now analysed_update.now }
-    ensures { Answers S.state S.after (spec.update_with_quals role_privileges.now expansion.now analysed_update.now role.now from.entry.name.now from.entry.table.now) source.old source.new read_set.old read_set.new result }
+    ensures { Answers (spec.update_with_quals role_privileges.now expansion.now analysed_update.now role.now from.entry.name.now from.entry.table.now) asker.old asker.new result }
 {
-    let checks = checks(alloc, from, expansion, analysed_update, columns_read)?;
-    require_all(alloc, source, read_set, role_privileges, checks)?;
-    let rows = scanned_rows(
-        alloc,
-        source,
-        read_set,
-        role,
-        from,
-        &analysed_update.condition,
-    )?;
+    let checks = checks(asker.alloc(), from, expansion, analysed_update, columns_read)?;
+    require_all(asker, role_privileges, checks)?;
+    let rows = scanned_rows(asker, role, from, &analysed_update.condition)?;
     update_qualifying_rows(
-        alloc,
-        source,
-        read_set,
+        asker,
         &*expansion,
         &*analysed_update,
         &*role,
@@ -208,22 +172,18 @@ fn checks<'c, 'x>(
 
 /// Judges each scanned row; those that are allowed and meet the condition get their new values.
 #[tactic(auto, unfolding(crate::specs::Updating::update_qualifying_rows))]
-fn update_qualifying_rows<'a, 'c, 'x, S: RowSource<'c>>(
-    alloc: Global,
-    source: &mut S,
-    read_set: &mut Reads,
+fn update_qualifying_rows<'a, 'c, 'x>(
+    asker: &mut Asker<'c>,
     expansion: &'a PolicyExpansion<'c>,
     analysed_update: &'a AnalysedUpdate,
     role: &'a Name,
     from: FromTable<'x>,
     scanned_rows: &'a [BorrowedRow<'c>],
 ) -> Result<Effect, Refusal>
-    ensures { Answers S.state S.after (spec.update_qualifying_rows role.now from.entry.name.now from.entry.table.now expansion.now analysed_update.now scanned_rows.now) source.old source.new read_set.old read_set.new result }
+    ensures { Answers (spec.update_qualifying_rows role.now from.entry.name.now from.entry.table.now expansion.now analysed_update.now scanned_rows.now) asker.old asker.new result }
 {
     let (decisions, qualifying_rows) = qualifying_rows_under(
-        alloc,
-        source,
-        read_set,
+        asker,
         expansion,
         role,
         &analysed_update.condition,
@@ -231,9 +191,7 @@ fn update_qualifying_rows<'a, 'c, 'x, S: RowSource<'c>>(
     )?;
     let replaced = replaced_of(&qualifying_rows, scanned_rows);
     update_values(
-        alloc,
-        source,
-        read_set,
+        asker,
         &*expansion,
         &*analysed_update,
         &*role,
@@ -259,10 +217,8 @@ fn replaced_of<'r, 'c>(
 
 /// The new values of all qualifying rows, and then the rows.
 #[tactic(auto, unfolding(crate::specs::Updating::update_values))]
-fn update_values<'a, 'c, 'x, S: RowSource<'c>>(
-    alloc: Global,
-    source: &mut S,
-    read_set: &mut Reads,
+fn update_values<'a, 'c, 'x>(
+    asker: &mut Asker<'c>,
     expansion: &'a PolicyExpansion<'c>,
     analysed_update: &'a AnalysedUpdate,
     role: &'a Name,
@@ -270,13 +226,11 @@ fn update_values<'a, 'c, 'x, S: RowSource<'c>>(
     decisions: Vec<Decision>,
     replaced: &Replaced<'a, 'c>,
 ) -> Result<Effect, Refusal>
-    ensures { Answers S.state S.after (spec.update_values role.now from.entry.name.now from.entry.table.now expansion.now analysed_update.now decisions.items replaced.now) source.old source.new read_set.old read_set.new result }
+    ensures { Answers (spec.update_values role.now from.entry.name.now from.entry.table.now expansion.now analysed_update.now decisions.items replaced.now) asker.old asker.new result }
 {
     let nothing = Scoped::Nothing;
     let values = assignments_of(
-        alloc,
-        source,
-        read_set,
+        asker,
         expansion.relations.as_slice(),
         role,
         &nothing,
@@ -284,9 +238,7 @@ fn update_values<'a, 'c, 'x, S: RowSource<'c>>(
         replaced.rows(),
     )?;
     let updated = update_made(
-        alloc,
-        source,
-        read_set,
+        asker,
         expansion,
         analysed_update,
         role,
@@ -301,10 +253,8 @@ fn update_values<'a, 'c, 'x, S: RowSource<'c>>(
 
 /// The ranges of the new values, and then the rows.
 #[tactic(auto, unfolding(crate::specs::Updating::update_made))]
-fn update_made<'a, 'c, 'x, S: RowSource<'c>>(
-    alloc: Global,
-    source: &mut S,
-    read_set: &mut Reads,
+fn update_made<'a, 'c, 'x>(
+    asker: &mut Asker<'c>,
     expansion: &'a PolicyExpansion<'c>,
     analysed_update: &'a AnalysedUpdate,
     role: &'a Name,
@@ -313,13 +263,12 @@ fn update_made<'a, 'c, 'x, S: RowSource<'c>>(
     replaced: &Replaced<'a, 'c>,
     values: &[Datum],
 ) -> Result<Effect, Refusal>
-    ensures { Answers S.state S.after (spec.update_made role.now from.entry.name.now from.entry.table.now expansion.now analysed_update.now decisions.items replaced.now (map datum_value values.now)) source.old source.new read_set.old read_set.new result }
+    ensures { Answers (spec.update_made role.now from.entry.name.now from.entry.table.now expansion.now analysed_update.now decisions.items replaced.now (map datum_value values.now)) asker.old asker.new result }
 {
+    let alloc = asker.alloc();
     match updated_rows(alloc, from.table, analysed_update, replaced.rows(), values) {
         Ok(new) => Ok(update_rows(
-            alloc,
-            source,
-            read_set,
+            asker,
             expansion,
             analysed_update,
             role,
@@ -424,10 +373,8 @@ fn updated_row<'c>(
 
 /// Each new row is judged, and then all are changed or none.
 #[tactic(auto, unfolding(crate::specs::Updating::update_rows))]
-fn update_rows<'a, 'c, 'x, S: RowSource<'c>>(
-    alloc: Global,
-    source: &mut S,
-    read_set: &mut Reads,
+fn update_rows<'a, 'c, 'x>(
+    asker: &mut Asker<'c>,
     expansion: &'a PolicyExpansion<'c>,
     analysed_update: &AnalysedUpdate,
     role: &'a Name,
@@ -436,13 +383,11 @@ fn update_rows<'a, 'c, 'x, S: RowSource<'c>>(
     replaced: &Replaced<'_, 'c>,
     new: Items<Stored>,
 ) -> Result<Effect, AllocError>
-    ensures { Tells S.state S.after (spec.update_rows role.now from.entry.name.now from.entry.table.now expansion.now analysed_update.now before.items replaced.now new) source.old source.new read_set.old read_set.new result }
+    ensures { Tells (spec.update_rows role.now from.entry.name.now from.entry.table.now expansion.now analysed_update.now before.items replaced.now new) asker.old asker.new result }
 {
-    let after = judged_under(alloc, source, read_set, &*expansion, &*role, &new)?;
+    let after = judged_under(asker, &*expansion, &*role, &new)?;
     update_judged(
-        alloc,
-        source,
-        read_set,
+        asker,
         analysed_update,
         role,
         from,
@@ -455,10 +400,8 @@ fn update_rows<'a, 'c, 'x, S: RowSource<'c>>(
 
 /// Where none of the new rows is refused, all are changed.
 #[tactic(auto, unfolding(crate::specs::Updating::update_judged))]
-fn update_judged<'c, 'x, S: RowSource<'c>>(
-    alloc: Global,
-    source: &mut S,
-    read_set: &mut Reads,
+fn update_judged<'c, 'x>(
+    asker: &mut Asker<'c>,
     analysed_update: &AnalysedUpdate,
     role: &Name,
     from: FromTable<'x>,
@@ -467,12 +410,10 @@ fn update_judged<'c, 'x, S: RowSource<'c>>(
     replaced: &Replaced<'_, 'c>,
     new: Items<Stored>,
 ) -> Result<Effect, AllocError>
-    ensures { Tells S.state S.after (spec.update_judged role.now from.entry.name.now from.entry.table.now analysed_update.now before.items replaced.now new after.items) source.old source.new read_set.old read_set.new result }
+    ensures { Tells (spec.update_judged role.now from.entry.name.now from.entry.table.now analysed_update.now before.items replaced.now new after.items) asker.old asker.new result }
 {
     match require_updated(
-        alloc,
-        source,
-        read_set,
+        asker,
         analysed_update,
         from,
         &after,
@@ -480,7 +421,7 @@ fn update_judged<'c, 'x, S: RowSource<'c>>(
         new.as_slice(),
     ) {
         Ok(()) => updated(
-            alloc,
+            asker.alloc(),
             from.name,
             analysed_update,
             role,
@@ -495,24 +436,20 @@ fn update_judged<'c, 'x, S: RowSource<'c>>(
 }
 
 /// What the new rows are refused for.
-fn require_updated<'c, 'x, S: RowSource<'c>>(
-    alloc: Global,
-    source: &mut S,
-    read_set: &mut Reads,
+fn require_updated<'c, 'x>(
+    asker: &mut Asker<'c>,
     analysed_update: &AnalysedUpdate,
     from: FromTable<'x>,
     decisions: &[Decision],
     replaced: &Replaced<'_, 'c>,
     new: &[Stored],
 ) -> Result<(), Refusal>
-    ensures { Answers S.state S.after (rows_or_refused from.entry.name.now from.entry.table.now.columns (spec_order_of (spec.places_set analysed_update.now.assignments) from.entry.table.now.columns) decisions.now replaced.now new.now) source.old source.new read_set.old read_set.new result }
+    ensures { Answers (rows_or_refused from.entry.name.now from.entry.table.now.columns (spec_order_of (spec.places_set analysed_update.now.assignments) from.entry.table.now.columns) decisions.now replaced.now new.now) asker.old asker.new result }
 {
-    let places = places_set(alloc, analysed_update.assignments.as_slice())?;
-    let order = order_of(alloc, &places, from.table.columns.as_slice())?;
+    let places = places_set(asker.alloc(), analysed_update.assignments.as_slice())?;
+    let order = order_of(asker.alloc(), &places, from.table.columns.as_slice())?;
     drop(places);
-    let found = require_rows(
-        alloc, source, read_set, from, &order, decisions, replaced, new,
-    );
+    let found = require_rows(asker, from, &order, decisions, replaced, new);
     drop(order);
     found
 }

@@ -16,6 +16,7 @@ use rls_expr::{Column, FromTable, SelectedTable, copies, put_if};
 use rls_guard::rls_catalog::{Stored, Verdict};
 use rls_guard::rls_source::{Reads, RowSource};
 use rls_guard::{Decision, PermissionCheck, RolePrivileges};
+use rls_source::Asker;
 use rls_value::{Items, Name, Privilege, Refusal, Row, Value, Why};
 use std::alloc::{AllocError, Global};
 
@@ -80,37 +81,27 @@ fn put_check(
 }
 
 /// Denied where the role lacks one of them; the first counts.
-pub fn require_all<'c, S: RowSource<'c>>(
-    alloc: Global,
-    source: &mut S,
-    read_set: &mut Reads,
+pub fn require_all(
+    asker: &mut Asker,
     role_privileges: &RolePrivileges,
     checks: Items<PermissionCheck>,
 ) -> Result<(), Refusal>
-    ensures { Answers S.state S.after (spec.permissions_or_denied role_privileges.now checks) source.old source.new read_set.old read_set.new result }
+    ensures { Answers (spec.permissions_or_denied role_privileges.now checks) asker.old asker.new result }
 {
-    let permitted = require_permissions(
-        alloc,
-        source,
-        read_set,
-        role_privileges,
-        checks.as_slice(),
-    );
+    let permitted = require_permissions(asker, role_privileges, checks.as_slice());
     drop(checks);
     permitted
 }
 
-fn require_permissions<'c, S: RowSource<'c>>(
-    alloc: Global,
-    source: &mut S,
-    read_set: &mut Reads,
+fn require_permissions(
+    asker: &mut Asker,
     role_privileges: &RolePrivileges,
     checks: &[PermissionCheck],
 ) -> Result<(), Refusal>
-    ensures { Answers S.state S.after (spec.permissions_or_denied role_privileges.now checks.now) source.old source.new read_set.old read_set.new result }
+    ensures { Answers (spec.permissions_or_denied role_privileges.now checks.now) asker.old asker.new result }
 {
     for check in checks {
-        role_privileges.require_permission(alloc, source, read_set, check)?;
+        role_privileges.require_permission(asker, check)?;
     }
     Ok(())
 }
@@ -227,37 +218,33 @@ pub fn is_written(places: &[usize], place: usize) -> bool
 
 /// The first denied row, then the first null where none may be, then a key that is taken by a row that stays.
 #[tactic(auto, unfolding(crate::specs::Writing::rows_or_refused))]
-pub fn require_rows<'c, 'x, S: RowSource<'c>>(
-    alloc: Global,
-    source: &mut S,
-    read_set: &mut Reads,
+pub fn require_rows<'c, 'x>(
+    asker: &mut Asker<'c>,
     from: FromTable<'x>,
     order: &[usize],
     decisions: &[Decision],
     replaced: &Replaced<'_, 'c>,
     rows: &[Stored],
 ) -> Result<(), Refusal>
-    ensures { Answers S.state S.after (spec.rows_or_refused from.entry.name.now from.entry.table.now.columns order.now decisions.now replaced.now rows.now) source.old source.new read_set.old read_set.new result }
+    ensures { Answers (spec.rows_or_refused from.entry.name.now from.entry.table.now.columns order.now decisions.now replaced.now rows.now) asker.old asker.new result }
 {
     require_allowed(from.name, decisions)?;
-    require_constraints(alloc, source, read_set, from, order, replaced, rows)
+    require_constraints(asker, from, order, replaced, rows)
 }
 
 /// The first null where none may be, then a key that is taken.
 #[tactic(auto, unfolding(crate::specs::Writing::constraints_or_refused))]
-fn require_constraints<'c, 'x, S: RowSource<'c>>(
-    alloc: Global,
-    source: &mut S,
-    read_set: &mut Reads,
+fn require_constraints<'c, 'x>(
+    asker: &mut Asker<'c>,
     from: FromTable<'x>,
     order: &[usize],
     replaced: &Replaced<'_, 'c>,
     rows: &[Stored],
 ) -> Result<(), Refusal>
-    ensures { Answers S.state S.after (spec.constraints_or_refused from.entry.name.now from.entry.table.now.columns order.now replaced.now rows.now) source.old source.new read_set.old read_set.new result }
+    ensures { Answers (spec.constraints_or_refused from.entry.name.now from.entry.table.now.columns order.now replaced.now rows.now) asker.old asker.new result }
 {
     require_values(rows, from.table.columns.as_slice(), order)?;
-    require_unique(alloc, source, read_set, from.name, replaced, rows)
+    require_unique(asker, from.name, replaced, rows)
 }
 
 fn require_allowed(table: &Name, decisions: &[Decision]) -> Result<(), Refusal>

@@ -4,11 +4,9 @@ ghost use Rattle.std.specs.Prelude.{◌≡◌, IfOk};
 ghost use Rattle.rls_verdict.specs.rls_catalog.specs.State.{State, rows_of, rows_with_key};
 ghost use Rattle.rls_evaluation.specs.Showing.{values_of};
 
-use rls_source::RowSource;
 use rls_value::{Items, Name, Row};
-use rls_verdict::rls_catalog::BorrowedRow;
+use rls_verdict::rls_catalog::{BorrowedRow, Catalog};
 use std::alloc::{AllocError, Global};
-use std::marker::PhantomData;
 
 /// Gives the rows of tables; the rows share their values with those of the state. It names no lifetime, so that functions
 /// which call one another in a circle may be over it.
@@ -32,29 +30,25 @@ pub trait Tables {
         ensures stands { state self.new ≡ state self.old };
 }
 
-/// A source that is looked at, which gives the rows of its tables.
-#[derive(Drop)]
-pub struct Looked<'s, 'c, S> {
-    source: &'s S,
-    lends: PhantomData<&'c Row>,
+/// A state that is looked at.
+#[derive(Clone, Copy)]
+pub struct Looked<'c> {
+    catalog: &'c Catalog,
 }
 
-impl<'s, 'c, S> Looked<'s, 'c, S> {
-    pub fn new(source: &'s S) -> Looked<'s, 'c, S>
-        ensures { result.source.now ≡ source.now }
+impl<'c> Looked<'c> {
+    pub fn new(catalog: &'c Catalog) -> Looked<'c>
+        ensures { result.catalog.now ≡ catalog.now }
     {
-        Looked {
-            source,
-            lends: PhantomData,
-        }
+        Looked { catalog }
     }
 }
 
-impl<'s, 'c, S: RowSource<'c>> Tables for Looked<'s, 'c, S> {
-    ghost state = { λ it. S.state it.source.now };
+impl<'c> Tables for Looked<'c> {
+    ghost state = { λ it. it.catalog.now };
 
     fn all_rows(&mut self, alloc: Global, table: &Name) -> Result<Items<Row>, AllocError> {
-        let rows = self.source.look(alloc, table)?;
+        let rows = self.catalog.rows(alloc, table)?;
         shared(alloc, rows.as_slice())
     }
 
@@ -64,7 +58,7 @@ impl<'s, 'c, S: RowSource<'c>> Tables for Looked<'s, 'c, S> {
         table: &Name,
         key: &Row,
     ) -> Result<Items<Row>, AllocError> {
-        let rows = self.source.look_by_key(alloc, table, key)?;
+        let rows = self.catalog.rows_with_key(alloc, table, key)?;
         shared(alloc, rows.as_slice())
     }
 }

@@ -13,28 +13,26 @@ use rls_guard::RolePrivileges;
 use rls_guard::rls_catalog::rls_expr::{NamedTable, Policy, TableDef};
 use rls_guard::rls_policy::chosen;
 use rls_guard::rls_role::is_among;
-use rls_guard::rls_source::{Reads, RowSource, noted_table};
+use rls_guard::rls_source::Asker;
 use rls_recursion::PolicyDependency;
 use rls_recursion::rls_catalog::{Policies, Side};
 use rls_value::{Items, Kind, Name, Reference};
 use std::alloc::{AllocError, Global};
 
 /// The dependencies of the tables, and of those that they lead to, each once, in the order in which they are met.
-pub fn dependencies_of<'c, S: RowSource<'c>>(
-    alloc: Global,
-    source: &mut S,
-    read_set: &mut Reads,
+pub fn dependencies_of<'c>(
+    asker: &mut Asker<'c>,
     role_privileges: &RolePrivileges,
     tables: &[Name],
 ) -> Result<Items<PolicyDependency<'c>>, AllocError>
-    ensures { Tells S.state S.after (spec.dependencies_of role_privileges.now tables.now) source.old source.new read_set.old read_set.new result }
+    ensures { Tells (spec.dependencies_of role_privileges.now tables.now) asker.old asker.new result }
 {
-    let mut names = Vec::new(alloc);
+    let mut names = Vec::new(asker.alloc());
     add_fresh(&mut names, tables)?;
-    let mut dependencies = Items::new(alloc);
+    let mut dependencies = Items::new(asker.alloc());
     let mut next = 0;
     while let Some(name) = name_at(&names, next) {
-        let dependency = dependency_of(alloc, source, read_set, role_privileges, name)?;
+        let dependency = dependency_of(asker, role_privileges, name)?;
         keep(&mut names, &mut dependencies, dependency)?;
         next += 1;
     }
@@ -67,18 +65,16 @@ fn keep<'c>(
 
 /// What is read for the table: its definition and, unless row security doesn't apply to the role, its policies.
 #[tactic(auto, unfolding(crate::specs::Dependencies::dependency_of))]
-fn dependency_of<'c, S: RowSource<'c>>(
-    alloc: Global,
-    source: &mut S,
-    read_set: &mut Reads,
+fn dependency_of<'c>(
+    asker: &mut Asker<'c>,
     role_privileges: &RolePrivileges,
     name: &Name,
 ) -> Result<PolicyDependency<'c>, AllocError>
-    ensures { Tells S.state S.after (spec.dependency_of role_privileges.now name.now) source.old source.new read_set.old read_set.new result }
+    ensures { Tells (spec.dependency_of role_privileges.now name.now) asker.old asker.new result }
 {
-    match noted_table(alloc, source, read_set, name)? {
-        Some(table) => dependency_in(alloc, source, read_set, role_privileges, name, table),
-        None => absent(alloc, name),
+    match asker.table(name)? {
+        Some(table) => dependency_in(asker, role_privileges, name, table),
+        None => absent(asker.alloc(), name),
     }
 }
 
@@ -96,18 +92,16 @@ fn absent<'c>(alloc: Global, name: &Name) -> Result<PolicyDependency<'c>, AllocE
 }
 
 #[tactic(auto, unfolding(crate::specs::Dependencies::dependency_in))]
-fn dependency_in<'c, S: RowSource<'c>>(
-    alloc: Global,
-    source: &mut S,
-    read_set: &mut Reads,
+fn dependency_in<'c>(
+    asker: &mut Asker<'c>,
     role_privileges: &RolePrivileges,
     name: &Name,
     table: &'c TableDef,
 ) -> Result<PolicyDependency<'c>, AllocError>
-    ensures { Tells S.state S.after (spec.dependency_in role_privileges.now name.now table.now) source.old source.new read_set.old read_set.new result }
+    ensures { Tells (spec.dependency_in role_privileges.now name.now table.now) asker.old asker.new result }
 {
-    let policies = policies_for(alloc, source, read_set, role_privileges, name, table)?;
-    dependency_by(alloc, role_privileges, name, table, policies)
+    let policies = policies_for(asker, role_privileges, name, table)?;
+    dependency_by(asker.alloc(), role_privileges, name, table, policies)
 }
 
 fn dependency_by<'c>(

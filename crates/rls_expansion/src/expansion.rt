@@ -16,7 +16,7 @@ use crate::selected::{selected_used, subqueries_in};
 use crate::used::tables_used;
 use rls_guard::rls_catalog::rls_expr::{FromTable, SelectedTable};
 use rls_guard::rls_evaluation::SecuredRelation;
-use rls_guard::rls_source::{Reads, RowSource};
+use rls_guard::rls_source::Asker;
 use rls_guard::{PolicyScope, RolePrivileges, RowCheck, row_checks_by};
 use rls_recursion::rls_catalog::{Policies, Side};
 use rls_recursion::{PolicyDependency, PolicySubqueries, Reached, listed, search};
@@ -70,65 +70,39 @@ struct Command {
 /// its subqueries and the policies' lead to, each read once. `Recursion` names the first table that a chain of policies
 /// meets again (PostgreSQL: 42P17).
 #[tactic(auto, unfolding(crate::specs::Expanding::expansion_of))]
-pub fn expansion_of<'c, 'x, S: RowSource<'c>>(
-    alloc: Global,
-    source: &mut S,
-    read_set: &mut Reads,
+pub fn expansion_of<'c, 'x>(
+    asker: &mut Asker<'c>,
     role_privileges: &RolePrivileges,
     from: FromTable<'x>,
     kind: Kind,
     reads: bool,
     queries: &[Name],
 ) -> Result<PolicyExpansion<'c>, Refusal>
-    ensures { Answers S.state S.after (spec.expansion_of role_privileges.now from.entry.name.now from.entry.table.now kind reads queries.now) source.old source.new read_set.old read_set.new result }
+    ensures { Answers (spec.expansion_of role_privileges.now from.entry.name.now from.entry.table.now kind reads queries.now) asker.old asker.new result }
 {
-    let policies = policies_for(
-        alloc,
-        source,
-        read_set,
-        role_privileges,
-        from.name,
-        from.table,
-    )?;
+    let policies = policies_for(asker, role_privileges, from.name, from.table)?;
     let command = Command { kind, reads };
-    past_policies(
-        alloc,
-        source,
-        read_set,
-        role_privileges,
-        from,
-        command,
-        policies,
-        queries,
-    )
+    past_policies(asker, role_privileges, from, command, policies, queries)
 }
 
 /// The policies of the table being known.
 #[tactic(auto, unfolding(crate::specs::Expanding::past_policies))]
-fn past_policies<'c, 'x, S: RowSource<'c>>(
-    alloc: Global,
-    source: &mut S,
-    read_set: &mut Reads,
+fn past_policies<'c, 'x>(
+    asker: &mut Asker<'c>,
     role_privileges: &RolePrivileges,
     from: FromTable<'x>,
     command: Command,
     policies: Option<&'c Policies>,
     queries: &[Name],
 ) -> Result<PolicyExpansion<'c>, Refusal>
-    ensures { Answers S.state S.after (spec.past_policies role_privileges.now from.entry.name.now from.entry.table.now command.kind command.reads queries.now (option_copied policies.entry)) source.old source.new read_set.old read_set.new result }
+    ensures { Answers (spec.past_policies role_privileges.now from.entry.name.now from.entry.table.now command.kind command.reads queries.now (option_copied policies.entry)) asker.old asker.new result }
 {
-    let own = own_tables(alloc, role_privileges, command, policies)?;
-    let tables = tables_from(alloc, own.as_slice(), queries)?;
-    let dependencies = dependencies_of(
-        alloc,
-        source,
-        read_set,
-        role_privileges,
-        tables.as_slice(),
-    )?;
+    let own = own_tables(asker.alloc(), role_privileges, command, policies)?;
+    let tables = tables_from(asker.alloc(), own.as_slice(), queries)?;
+    let dependencies = dependencies_of(asker, role_privileges, tables.as_slice())?;
     drop(tables);
     expand(
-        alloc,
+        asker.alloc(),
         role_privileges,
         from,
         command,

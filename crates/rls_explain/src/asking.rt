@@ -12,27 +12,26 @@ ghost use Rattle.rls_explain.specs.Found as spec;
 use rls_expr::{Expr, FromTable};
 use rls_judging::{CheckContext, qualifying_rows_of, scanned_rows};
 use rls_meaning::rls_expansion::{PolicyExpansion, expansion_of};
-use rls_meaning::rls_guard::rls_catalog::BorrowedRow;
-use rls_meaning::rls_guard::rls_source::{Reads, RowSource};
+use rls_meaning::rls_guard::rls_catalog::{BorrowedRow, Catalog};
+use rls_meaning::rls_guard::rls_source::Asker;
 use rls_meaning::rls_guard::role_privileges_of;
-use rls_value::{Items, Kind, Name, Refusal};
+use rls_value::{Items, Kind, Name, Refusal, or_drop};
 use std::alloc::{AllocError, Global};
 
 /// The policy expansion of a command of that type on the table, whose own subqueries look at those tables; none where a chain of
 /// policies closes.
-pub fn expansion_if<'c, 'x, S: RowSource<'c>>(
+pub fn expansion_if<'c, 'x>(
     alloc: Global,
-    source: &mut S,
+    catalog: &'c Catalog,
     role: &Name,
     from: FromTable<'x>,
     kind: Kind,
     reads: bool,
     queries: &[Name],
 ) -> Result<Option<PolicyExpansion<'c>>, AllocError>
-    ensures given { IfOk result (λ found. found ≡ spec.expansion_found (S.state source.old) role.now (in_scope from.entry) kind reads queries.now) }
-    ensures state { S.state source.new ≡ S.state source.old }
+    ensures { IfOk result (λ found. found ≡ spec.expansion_found catalog.now role.now (in_scope from.entry) kind reads queries.now) }
 {
-    match expansion_for(alloc, source, role, from, kind, reads, queries) {
+    match expansion_for(alloc, catalog, role, from, kind, reads, queries) {
         Ok(expansion) => Ok(Some(expansion)),
         Err(Refusal::NoMemory) => Err(AllocError),
         Err(refusal) => {
@@ -43,103 +42,57 @@ pub fn expansion_if<'c, 'x, S: RowSource<'c>>(
 }
 
 /// The same, a chain that closes as a refusal. What is read is forgotten.
-fn expansion_for<'c, 'x, S: RowSource<'c>>(
+fn expansion_for<'c, 'x>(
     alloc: Global,
-    source: &mut S,
+    catalog: &'c Catalog,
     role: &Name,
     from: FromTable<'x>,
     kind: Kind,
     reads: bool,
     queries: &[Name],
 ) -> Result<PolicyExpansion<'c>, Refusal>
-    ensures given { Gives result ((expanding.expansion_of (role_privileges_in (S.state source.old) role.now) from.entry.name.now from.entry.table.now kind reads queries.now).in_state (S.state source.old)).gives }
-    ensures state { S.state source.new ≡ S.state source.old }
+    ensures { Gives result ((expanding.expansion_of (role_privileges_in catalog.now role.now) from.entry.name.now from.entry.table.now kind reads queries.now).in_state catalog.now).gives }
 {
-    let mut read_set = Reads::new(alloc);
-    let expansion = noted_expansion(
-        alloc,
-        source,
-        &mut read_set,
-        role,
-        from,
-        kind,
-        reads,
-        queries,
-    );
-    drop(read_set);
-    expansion
-}
-
-fn noted_expansion<'c, 'x, S: RowSource<'c>>(
-    alloc: Global,
-    source: &mut S,
-    read_set: &mut Reads,
-    role: &Name,
-    from: FromTable<'x>,
-    kind: Kind,
-    reads: bool,
-    queries: &[Name],
-) -> Result<PolicyExpansion<'c>, Refusal>
-    ensures given { Gives result ((expanding.expansion_of (role_privileges_in (S.state source.old) role.now) from.entry.name.now from.entry.table.now kind reads queries.now).in_state (S.state source.old)).gives }
-    ensures state { S.state source.new ≡ S.state source.old }
-{
-    let role_privileges = role_privileges_of(alloc, source, read_set, role)?;
-    let expansion = expansion_of(
-        alloc,
-        source,
-        read_set,
-        &role_privileges,
-        from,
-        kind,
-        reads,
-        queries,
-    );
+    let mut asker = Asker::new(alloc, catalog);
+    let role_privileges = or_drop!(role_privileges_of(&mut asker, role), asker);
+    let expansion = expansion_of(&mut asker, &role_privileges, from, kind, reads, queries);
     drop(role_privileges);
+    drop(asker);
     expansion
 }
 
 /// The rows that a command on the table scans.
 #[tactic(auto, using(crate::proofs::AskingLemmas::scanned_are))]
-pub fn rows_scanned<'c, 'x, S: RowSource<'c>>(
+pub fn rows_scanned<'c, 'x>(
     alloc: Global,
-    source: &mut S,
+    catalog: &'c Catalog,
     role: &Name,
     from: FromTable<'x>,
     condition: &Option<Expr>,
 ) -> Result<Items<BorrowedRow<'c>>, AllocError>
-    ensures rows { IfOk result (λ rows. rows ≡ rows_at_key (S.state source.old) from.entry.name.now (pinned_key role.now from.entry.table.now.key condition.now)) }
-    ensures state { S.state source.new ≡ S.state source.old }
+    ensures { IfOk result (λ rows. rows ≡ rows_at_key catalog.now from.entry.name.now (pinned_key role.now from.entry.table.now.key condition.now)) }
 {
-    let mut read_set = Reads::new(alloc);
-    let rows = scanned_rows(alloc, source, &mut read_set, role, from, condition);
-    drop(read_set);
+    let mut asker = Asker::new(alloc, catalog);
+    let rows = scanned_rows(&mut asker, role, from, condition);
+    drop(asker);
     rows
 }
 
 /// Those of the scanned rows that qualify.
 #[tactic(auto, using(crate::proofs::AskingLemmas::qualifying_are))]
-pub fn rows_qualifying<'a, 'c, S: RowSource<'c>>(
+pub fn rows_qualifying<'a, 'c>(
     alloc: Global,
-    source: &mut S,
+    catalog: &'c Catalog,
     role: &'a Name,
     expansion: &'a PolicyExpansion<'c>,
     condition: &'a Option<Expr>,
     scanned: &'a [BorrowedRow<'c>],
 ) -> Result<Vec<&'a BorrowedRow<'c>>, AllocError>
-    ensures rows { IfOk result (λ rows. rows_borrowed rows ≡ spec.qualifying_found (S.state source.old) expansion.now role.now condition.now scanned.now) }
-    ensures state { S.state source.new ≡ S.state source.old }
+    ensures { IfOk result (λ rows. rows_borrowed rows ≡ spec.qualifying_found catalog.now expansion.now role.now condition.now scanned.now) }
 {
-    let mut read_set = Reads::new(alloc);
-    let judged = qualifying_rows_of(
-        alloc,
-        source,
-        &mut read_set,
-        old_rows(expansion, role),
-        condition,
-        scanned,
-        0,
-    );
-    drop(read_set);
+    let mut asker = Asker::new(alloc, catalog);
+    let judged = qualifying_rows_of(&mut asker, old_rows(expansion, role), condition, scanned, 0);
+    drop(asker);
     let (decisions, rows) = judged?;
     drop(decisions);
     Ok(rows)

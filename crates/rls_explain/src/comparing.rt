@@ -13,35 +13,33 @@ use crate::seeing::rows_seen;
 use crate::telling::ranged_over;
 use crate::valuing::{Judged, value_on, value_over};
 use rls_expr::{Comparison, Expr, Node, Subquery, boxed};
-use rls_meaning::rls_guard::rls_catalog::BorrowedRow;
+use rls_meaning::rls_guard::rls_catalog::{BorrowedRow, Catalog};
 use rls_meaning::rls_guard::rls_evaluation::{
     Env, ExecutionState, Looked, Scoped, SecuredRelation, Tables, VisibleRelations, meets_condition,
 };
-use rls_meaning::rls_guard::rls_source::RowSource;
 use rls_value::{Value, or_drop};
 use std::alloc::{AllocError, Global};
 
 /// A comparison with the values in place of its sides; none of what compares nothing.
-pub fn with_values<'a, 'c, S: RowSource<'c>>(
+pub fn with_values<'a, 'c>(
     alloc: Global,
-    source: &mut S,
+    catalog: &'c Catalog,
     judged: Judged<'a, 'c>,
     expr: &Expr,
 ) -> Result<Option<Expr>, AllocError>
-    ensures values { IfOk result (λ it. it ≡ spec.with_values (sight_found (S.state source.old) judged.entry.relations.now judged.entry.role.now) (over judged.entry.role.now judged.entry.row.now) expr.now) }
-    ensures state { S.state source.new ≡ S.state source.old }
+    ensures { IfOk result (λ it. it ≡ spec.with_values (sight_found catalog.now judged.entry.relations.now judged.entry.role.now) (over judged.entry.role.now judged.entry.row.now) expr.now) }
 {
     match expr.node() {
-        Node::Compare(how, left, right) => compared(alloc, &*source, judged, *how, left, right),
-        Node::IsNull(operand) => null_test(alloc, &*source, judged, operand, false),
-        Node::IsNotNull(operand) => null_test(alloc, &*source, judged, operand, true),
-        Node::InList(operand, list) => in_list(alloc, &*source, judged, operand, list, false),
-        Node::NotInList(operand, list) => in_list(alloc, &*source, judged, operand, list, true),
+        Node::Compare(how, left, right) => compared(alloc, catalog, judged, *how, left, right),
+        Node::IsNull(operand) => null_test(alloc, catalog, judged, operand, false),
+        Node::IsNotNull(operand) => null_test(alloc, catalog, judged, operand, true),
+        Node::InList(operand, list) => in_list(alloc, catalog, judged, operand, list, false),
+        Node::NotInList(operand, list) => in_list(alloc, catalog, judged, operand, list, true),
         Node::InSubquery(operand, query) => {
-            in_subquery(alloc, source, judged, operand, query, false)
+            in_subquery(alloc, catalog, judged, operand, query, false)
         }
         Node::NotInSubquery(operand, query) => {
-            in_subquery(alloc, source, judged, operand, query, true)
+            in_subquery(alloc, catalog, judged, operand, query, true)
         }
         Node::Literal(_)
         | Node::Column(_)
@@ -56,32 +54,32 @@ pub fn with_values<'a, 'c, S: RowSource<'c>>(
     }
 }
 
-fn compared<'a, 'c, S: RowSource<'c>>(
+fn compared<'a, 'c>(
     alloc: Global,
-    source: &S,
+    catalog: &'c Catalog,
     judged: Judged<'a, 'c>,
     how: Comparison,
     left: &Expr,
     right: &Expr,
 ) -> Result<Option<Expr>, AllocError>
-    ensures { IfOk result (λ it. it ≡ Some (t.Compare how (spec.literal_by (sight_found (S.state source.now) judged.entry.relations.now judged.entry.role.now) (over judged.entry.role.now judged.entry.row.now) left.now) (spec.literal_by (sight_found (S.state source.now) judged.entry.relations.now judged.entry.role.now) (over judged.entry.role.now judged.entry.row.now) right.now))) }
+    ensures { IfOk result (λ it. it ≡ Some (t.Compare how (spec.literal_by (sight_found catalog.now judged.entry.relations.now judged.entry.role.now) (over judged.entry.role.now judged.entry.row.now) left.now) (spec.literal_by (sight_found catalog.now judged.entry.relations.now judged.entry.role.now) (over judged.entry.role.now judged.entry.row.now) right.now))) }
 {
-    let left = literal_on(alloc, source, judged, left)?;
-    let right = or_drop!(literal_on(alloc, source, judged, right), left);
+    let left = literal_on(alloc, catalog, judged, left)?;
+    let right = or_drop!(literal_on(alloc, catalog, judged, right), left);
     Ok(Some(Expr::new(Node::Compare(how, left, right))))
 }
 
 /// IS NULL or IS NOT NULL.
-fn null_test<'a, 'c, S: RowSource<'c>>(
+fn null_test<'a, 'c>(
     alloc: Global,
-    source: &S,
+    catalog: &'c Catalog,
     judged: Judged<'a, 'c>,
     operand: &Expr,
     is_negated: bool,
 ) -> Result<Option<Expr>, AllocError>
-    ensures { IfOk result (λ it. it ≡ Some (spec.null_test is_negated (spec.literal_by (sight_found (S.state source.now) judged.entry.relations.now judged.entry.role.now) (over judged.entry.role.now judged.entry.row.now) operand.now))) }
+    ensures { IfOk result (λ it. it ≡ Some (spec.null_test is_negated (spec.literal_by (sight_found catalog.now judged.entry.relations.now judged.entry.role.now) (over judged.entry.role.now judged.entry.row.now) operand.now))) }
 {
-    let operand = literal_on(alloc, source, judged, operand)?;
+    let operand = literal_on(alloc, catalog, judged, operand)?;
     Ok(Some(null_tested(operand, is_negated)))
 }
 
@@ -96,35 +94,34 @@ fn null_tested(operand: Box<Expr>, is_negated: bool) -> Expr
 }
 
 /// IN or NOT IN with a list.
-fn in_list<'a, 'c, S: RowSource<'c>>(
+fn in_list<'a, 'c>(
     alloc: Global,
-    source: &S,
+    catalog: &'c Catalog,
     judged: Judged<'a, 'c>,
     operand: &Expr,
     list: &[Expr],
     is_negated: bool,
 ) -> Result<Option<Expr>, AllocError>
-    ensures { IfOk result (λ it. it ≡ Some (spec.among is_negated (spec.literal_by (sight_found (S.state source.now) judged.entry.relations.now judged.entry.role.now) (over judged.entry.role.now judged.entry.row.now) operand.now) (spec.literals (spec.values_by (sight_found (S.state source.now) judged.entry.relations.now judged.entry.role.now) (over judged.entry.role.now judged.entry.row.now) (terms_of list.now))))) }
+    ensures { IfOk result (λ it. it ≡ Some (spec.among is_negated (spec.literal_by (sight_found catalog.now judged.entry.relations.now judged.entry.role.now) (over judged.entry.role.now judged.entry.row.now) operand.now) (spec.literals (spec.values_by (sight_found catalog.now judged.entry.relations.now judged.entry.role.now) (over judged.entry.role.now judged.entry.row.now) (terms_of list.now))))) }
 {
-    let operand = literal_on(alloc, source, judged, operand)?;
-    let list = or_drop!(literals_on(alloc, source, judged, list), operand);
+    let operand = literal_on(alloc, catalog, judged, operand)?;
+    let list = or_drop!(literals_on(alloc, catalog, judged, list), operand);
     Ok(Some(among(operand, list, is_negated)))
 }
 
 /// IN or NOT IN with a subquery.
-fn in_subquery<'a, 'c, S: RowSource<'c>>(
+fn in_subquery<'a, 'c>(
     alloc: Global,
-    source: &mut S,
+    catalog: &'c Catalog,
     judged: Judged<'a, 'c>,
     operand: &Expr,
     query: &Subquery,
     is_negated: bool,
 ) -> Result<Option<Expr>, AllocError>
-    ensures values { IfOk result (λ it. it ≡ Some (spec.among is_negated (spec.literal_by (sight_found (S.state source.old) judged.entry.relations.now judged.entry.role.now) (over judged.entry.role.now judged.entry.row.now) operand.now) (spec.literals (spec.selected_by (sight_found (S.state source.old) judged.entry.relations.now judged.entry.role.now) (over judged.entry.role.now judged.entry.row.now) (query_of query.now))))) }
-    ensures state { S.state source.new ≡ S.state source.old }
+    ensures { IfOk result (λ it. it ≡ Some (spec.among is_negated (spec.literal_by (sight_found catalog.now judged.entry.relations.now judged.entry.role.now) (over judged.entry.role.now judged.entry.row.now) operand.now) (spec.literals (spec.selected_by (sight_found catalog.now judged.entry.relations.now judged.entry.role.now) (over judged.entry.role.now judged.entry.row.now) (query_of query.now))))) }
 {
-    let operand = literal_on(alloc, &*source, judged, operand)?;
-    let list = or_drop!(selected_by(alloc, source, judged, query), operand);
+    let operand = literal_on(alloc, catalog, judged, operand)?;
+    let list = or_drop!(selected_by(alloc, catalog, judged, query), operand);
     Ok(Some(among(operand, list, is_negated)))
 }
 
@@ -139,15 +136,15 @@ fn among(operand: Box<Expr>, list: Vec<Expr>, is_negated: bool) -> Expr
 }
 
 /// The value of the expression as a literal.
-fn literal_on<'a, 'c, S: RowSource<'c>>(
+fn literal_on<'a, 'c>(
     alloc: Global,
-    source: &S,
+    catalog: &'c Catalog,
     judged: Judged<'a, 'c>,
     expr: &Expr,
 ) -> Result<Box<Expr>, AllocError>
-    ensures { IfOk result (λ it. it.value ≡ Literal (value_found (S.state source.now) (shows judged.entry.relations.now judged.entry.role.now) (over judged.entry.role.now judged.entry.row.now) expr.now)) }
+    ensures { IfOk result (λ it. it.value ≡ Literal (value_found catalog.now (shows judged.entry.relations.now judged.entry.role.now) (over judged.entry.role.now judged.entry.row.now) expr.now)) }
 {
-    let value = value_on(alloc, source, judged, expr)?;
+    let value = value_on(alloc, catalog, judged, expr)?;
     boxed(alloc, literal(value))
 }
 
@@ -158,66 +155,64 @@ fn literal(value: Value) -> Expr
 }
 
 /// The value of each as a literal.
-fn literals_on<'a, 'c, S: RowSource<'c>>(
+fn literals_on<'a, 'c>(
     alloc: Global,
-    source: &S,
+    catalog: &'c Catalog,
     judged: Judged<'a, 'c>,
     list: &[Expr],
 ) -> Result<Vec<Expr>, AllocError>
-    ensures { IfOk result (λ it. terms_of it.items ≡ spec.literals (spec.values_by (sight_found (S.state source.now) judged.entry.relations.now judged.entry.role.now) (over judged.entry.role.now judged.entry.row.now) (terms_of list.now))) }
+    ensures { IfOk result (λ it. terms_of it.items ≡ spec.literals (spec.values_by (sight_found catalog.now judged.entry.relations.now judged.entry.role.now) (over judged.entry.role.now judged.entry.row.now) (terms_of list.now))) }
 {
     let mut literals = Vec::with_capacity(alloc, list.len())?;
     for expr in list {
-        literals.push(literal(value_on(alloc, source, judged, expr)?))?;
+        literals.push(literal(value_on(alloc, catalog, judged, expr)?))?;
     }
     Ok(literals)
 }
 
 /// What the subquery selects, as literals.
-fn selected_by<'a, 'c, S: RowSource<'c>>(
+fn selected_by<'a, 'c>(
     alloc: Global,
-    source: &mut S,
+    catalog: &'c Catalog,
     judged: Judged<'a, 'c>,
     query: &Subquery,
 ) -> Result<Vec<Expr>, AllocError>
-    ensures selected { IfOk result (λ it. terms_of it.items ≡ spec.literals (spec.selected_by (sight_found (S.state source.old) judged.entry.relations.now judged.entry.role.now) (over judged.entry.role.now judged.entry.row.now) (query_of query.now))) }
-    ensures state { S.state source.new ≡ S.state source.old }
+    ensures { IfOk result (λ it. terms_of it.items ≡ spec.literals (spec.selected_by (sight_found catalog.now judged.entry.relations.now judged.entry.role.now) (over judged.entry.role.now judged.entry.row.now) (query_of query.now))) }
 {
-    let rows = ranged_over(alloc, &*source, judged, query)?;
-    let selected = selected_among(alloc, source, judged, query, rows.as_slice());
+    let rows = ranged_over(alloc, catalog, judged, query)?;
+    let selected = selected_among(alloc, catalog, judged, query, rows.as_slice());
     drop(rows);
     selected
 }
 
 #[tactic(auto, using(crate::proofs::DetailLemmas::selected_later))]
-fn selected_among<'a, 'c, S: RowSource<'c>>(
+fn selected_among<'a, 'c>(
     alloc: Global,
-    source: &mut S,
+    catalog: &'c Catalog,
     judged: Judged<'a, 'c>,
     query: &Subquery,
     rows: &[BorrowedRow<'c>],
 ) -> Result<Vec<Expr>, AllocError>
-    ensures selected { IfOk result (λ it. terms_of it.items ≡ spec.literals (spec.selected_from (sight_found (S.state source.old) judged.entry.relations.now judged.entry.role.now) (over judged.entry.role.now judged.entry.row.now) (query_of query.now) (rows_shown_found (S.state source.old) judged.entry.role.now query.now.from.table (table_of (S.state source.old) query.now.from.table) rows.now))) }
-    ensures state { S.state source.new ≡ S.state source.old }
+    ensures { IfOk result (λ it. terms_of it.items ≡ spec.literals (spec.selected_from (sight_found catalog.now judged.entry.relations.now judged.entry.role.now) (over judged.entry.role.now judged.entry.row.now) (query_of query.now) (rows_shown_found catalog.now judged.entry.role.now query.now.from.table (table_of catalog.now query.now.from.table) rows.now))) }
 {
-    let seen = rows_seen(alloc, source, judged.role, &query.from.table, rows)?;
-    let selected = selected_of(alloc, &*source, judged, query, &seen);
+    let seen = rows_seen(alloc, catalog, judged.role, &query.from.table, rows)?;
+    let selected = selected_of(alloc, catalog, judged, query, &seen);
     drop(seen);
     selected
 }
 
-/// What it selects of these rows, while the source is looked at. What was shown for one row is kept for the others.
-fn selected_of<'s, 'a, 'c, S: RowSource<'c>>(
+/// What it selects of these rows. What was shown for one row is kept for the others.
+fn selected_of<'a, 'c>(
     alloc: Global,
-    source: &'s S,
+    catalog: &'c Catalog,
     judged: Judged<'a, 'c>,
     query: &Subquery,
     rows: &[&BorrowedRow<'c>],
 ) -> Result<Vec<Expr>, AllocError>
-    ensures { IfOk result (λ it. terms_of it.items ≡ spec.literals (spec.selected_from (sight_found (S.state source.now) judged.entry.relations.now judged.entry.role.now) (over judged.entry.role.now judged.entry.row.now) (query_of query.now) (map (λ row. row.now) rows.now))) }
+    ensures { IfOk result (λ it. terms_of it.items ≡ spec.literals (spec.selected_from (sight_found catalog.now judged.entry.relations.now judged.entry.role.now) (over judged.entry.role.now judged.entry.row.now) (query_of query.now) (map (λ row. row.now) rows.now))) }
 {
     let mut execution = ExecutionState::new(alloc);
-    let mut tables: Looked<'s, 'c, S> = Looked::new(source);
+    let mut tables = Looked::new(catalog);
     let selected = select_each(alloc, &mut tables, &mut execution, judged, query, rows);
     drop(execution);
     selected

@@ -12,14 +12,15 @@ use crate::judging::is_wanted;
 use crate::scanning::{explain_delete, explain_select};
 use crate::updating::explain_update;
 use rls_meaning::rls_access::{Ctx, Decision, Effect, Outcome, run_statement};
-use rls_meaning::rls_guard::rls_source::{RowSource, StatementSource};
+use rls_meaning::rls_guard::rls_catalog::Catalog;
+use rls_meaning::rls_guard::rls_source::StatementSource;
 use rls_meaning::statement_means;
 use rls_statement::Statement;
 use rls_value::{Items, Kind, Name};
 use std::alloc::{AllocError, Global};
 
 /// What the statement comes to and, of those that are wanted, each decision with what policies say. The source is only read.
-pub fn explain_row<'c, S: StatementSource<'c> + Drop>(
+pub fn explain_row<'c, S: StatementSource<'c>>(
     alloc: Global,
     source: &mut S,
     ctx: &Ctx,
@@ -32,7 +33,7 @@ pub fn explain_row<'c, S: StatementSource<'c> + Drop>(
     ensures state { S.state source.new ≡ S.state source.old }
 {
     let effect = effect_in(alloc, source, ctx, statement)?;
-    match role_and_row(alloc, source, ctx, statement, wanted, &effect) {
+    match role_and_row(alloc, source.catalog(), ctx, statement, wanted, &effect) {
         Ok((role, row)) => Ok(Explanation { role, effect, row }),
         Err(refused) => {
             drop(effect);
@@ -42,7 +43,7 @@ pub fn explain_row<'c, S: StatementSource<'c> + Drop>(
 }
 
 /// What the statement comes to.
-fn effect_in<'c, S: StatementSource<'c> + Drop>(
+fn effect_in<'c, S: StatementSource<'c>>(
     alloc: Global,
     source: &mut S,
     ctx: &Ctx,
@@ -63,20 +64,19 @@ fn effect_in<'c, S: StatementSource<'c> + Drop>(
 }
 
 /// The role, and the decisions that are wanted.
-fn role_and_row<'c, S: RowSource<'c>>(
+fn role_and_row(
     alloc: Global,
-    source: &mut S,
+    catalog: &Catalog,
     ctx: &Ctx,
     statement: &Statement,
     wanted: Option<Wanted>,
     effect: &Effect,
 ) -> Result<(Name, Items<Explained>), AllocError>
-    requires { effect.now ≡ effect_of (S.state source.old) ctx.now statement.now }
+    requires { effect.now ≡ effect_of catalog.now ctx.now statement.now }
     ensures role { IfOk result (λ both. both.0 ≡ ctx.now.role) }
-    ensures row { IfOk result (λ both. both.1 ≡ spec.explained_in (S.state source.old) ctx.now statement.now wanted) }
-    ensures state { S.state source.new ≡ S.state source.old }
+    ensures row { IfOk result (λ both. both.1 ≡ spec.explained_in catalog.now ctx.now statement.now wanted) }
 {
-    let explained = explained_in(alloc, source, ctx, statement, wanted, effect)?;
+    let explained = explained_in(alloc, catalog, ctx, statement, wanted, effect)?;
     match ctx.role.copy() {
         Ok(role) => Ok((role, explained)),
         Err(refused) => {
@@ -86,20 +86,19 @@ fn role_and_row<'c, S: RowSource<'c>>(
     }
 }
 
-fn explained_in<'c, S: RowSource<'c>>(
+fn explained_in(
     alloc: Global,
-    source: &mut S,
+    catalog: &Catalog,
     ctx: &Ctx,
     statement: &Statement,
     wanted: Option<Wanted>,
     effect: &Effect,
 ) -> Result<Items<Explained>, AllocError>
-    requires { effect.now ≡ effect_of (S.state source.old) ctx.now statement.now }
-    ensures row { IfOk result (λ explained. explained ≡ spec.explained_in (S.state source.old) ctx.now statement.now wanted) }
-    ensures state { S.state source.new ≡ S.state source.old }
+    requires { effect.now ≡ effect_of catalog.now ctx.now statement.now }
+    ensures { IfOk result (λ explained. explained ≡ spec.explained_in catalog.now ctx.now statement.now wanted) }
 {
     match wanted {
-        Some(wanted) => { explain_own(alloc, source, ctx, statement, decisions_of(effect), wanted) }
+        Some(wanted) => { explain_own(alloc, catalog, ctx, statement, decisions_of(effect), wanted) }
         None => Ok(Items::new(alloc)),
     }
 }
@@ -115,20 +114,19 @@ pub fn decisions_of(effect: &Effect) -> &[Decision]
 
 /// Explains the decisions that are wanted, which are among these.
 #[tactic(auto, using(crate::proofs::DecidedLemmas::undecided))]
-fn explain_own<'c, S: RowSource<'c>>(
+fn explain_own(
     alloc: Global,
-    source: &mut S,
+    catalog: &Catalog,
     ctx: &Ctx,
     statement: &Statement,
     decisions: &[Decision],
     wanted: Wanted,
 ) -> Result<Items<Explained>, AllocError>
-    requires { decisions.now ≡ spec.decisions_of (effect_of (S.state source.old) ctx.now statement.now) }
-    ensures row { IfOk result (λ explained. explained ≡ spec.explained_in (S.state source.old) ctx.now statement.now (Some wanted)) }
-    ensures state { S.state source.new ≡ S.state source.old }
+    requires { decisions.now ≡ spec.decisions_of (effect_of catalog.now ctx.now statement.now) }
+    ensures { IfOk result (λ explained. explained ≡ spec.explained_in catalog.now ctx.now statement.now (Some wanted)) }
 {
     if is_decided(decisions, wanted) {
-        explain_decided(alloc, source, ctx, statement, are_read(decisions), wanted)
+        explain_decided(alloc, catalog, ctx, statement, are_read(decisions), wanted)
     } else {
         Ok(Items::new(alloc))
     }
@@ -161,24 +159,23 @@ fn is_select(kind: Kind) -> bool
 
 /// Explains a statement with such decisions.
 #[tactic(auto, using(crate::proofs::DecidedLemmas::decides_on_none))]
-fn explain_decided<'c, S: RowSource<'c>>(
+fn explain_decided(
     alloc: Global,
-    source: &mut S,
+    catalog: &Catalog,
     ctx: &Ctx,
     statement: &Statement,
     reads: bool,
     wanted: Wanted,
 ) -> Result<Items<Explained>, AllocError>
-    requires decided { found.is_decided wanted (spec.decisions_of (effect_of (S.state source.old) ctx.now statement.now)) ≡ true }
-    requires reads { found.are_read (spec.decisions_of (effect_of (S.state source.old) ctx.now statement.now)) ≡ reads }
-    ensures row { IfOk result (λ explained. explained ≡ spec.explained_in (S.state source.old) ctx.now statement.now (Some wanted)) }
-    ensures state { S.state source.new ≡ S.state source.old }
+    requires decided { found.is_decided wanted (spec.decisions_of (effect_of catalog.now ctx.now statement.now)) ≡ true }
+    requires reads { found.are_read (spec.decisions_of (effect_of catalog.now ctx.now statement.now)) ≡ reads }
+    ensures { IfOk result (λ explained. explained ≡ spec.explained_in catalog.now ctx.now statement.now (Some wanted)) }
 {
     match statement {
-        Statement::Select(select) => explain_select(alloc, source, ctx, select, wanted),
-        Statement::Insert(insert) => explain_insert(alloc, source, ctx, insert, reads, wanted),
-        Statement::Update(update) => explain_update(alloc, source, ctx, update, reads, wanted),
-        Statement::Delete(delete) => explain_delete(alloc, source, ctx, delete, reads, wanted),
+        Statement::Select(select) => explain_select(alloc, catalog, ctx, select, wanted),
+        Statement::Insert(insert) => explain_insert(alloc, catalog, ctx, insert, reads, wanted),
+        Statement::Update(update) => explain_update(alloc, catalog, ctx, update, reads, wanted),
+        Statement::Delete(delete) => explain_delete(alloc, catalog, ctx, delete, reads, wanted),
         Statement::CreateRole(_)
         | Statement::AlterRole(_)
         | Statement::CreateTable(_)

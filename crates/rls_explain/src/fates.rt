@@ -15,16 +15,15 @@ use crate::outcome::{Fate, Met, Reason, RowOutcome, RowWord};
 use rls_expr::Expr;
 use rls_judging::CheckContext;
 use rls_meaning::rls_guard::Decision;
-use rls_meaning::rls_guard::rls_catalog::BorrowedRow;
+use rls_meaning::rls_guard::rls_catalog::{BorrowedRow, Catalog};
 use rls_meaning::rls_guard::rls_evaluation::allows;
-use rls_meaning::rls_guard::rls_source::RowSource;
 use rls_value::{Kind, Name, Row, RowId, Truth};
 use std::alloc::{AllocError, Global};
 
 /// Tells of each row that is scanned, behind what is told; of one that is met, this.
-pub fn put_scanned<'a, 'c, S: RowSource<'c>>(
+pub fn put_scanned<'a, 'c>(
     alloc: Global,
-    source: &S,
+    catalog: &'c Catalog,
     context: CheckContext<'a, 'c>,
     table: &Name,
     condition: &Option<Expr>,
@@ -32,10 +31,10 @@ pub fn put_scanned<'a, 'c, S: RowSource<'c>>(
     rows: &[BorrowedRow<'c>],
     outcomes: &mut Vec<RowOutcome>,
 ) -> Result<(), AllocError>
-    ensures { OnOk result (outcomes.new.items ≡ outcomes.old.items ++ finding.scanned_found (S.state source.now) (shows context.entry.relations.now context.entry.role.now) context.entry.role.now context.entry.row_checks.now table.now condition.now (spec.met_as table.now met) rows.now) }
+    ensures { OnOk result (outcomes.new.items ≡ outcomes.old.items ++ finding.scanned_found catalog.now (shows context.entry.relations.now context.entry.role.now) context.entry.role.now context.entry.row_checks.now table.now condition.now (spec.met_as table.now met) rows.now) }
 {
     for stored in rows {
-        let fate = fate_of(alloc, source, context, condition, stored)?;
+        let fate = fate_of(alloc, catalog, context, condition, stored)?;
         put_fate(alloc, table, fate, met, stored, outcomes)?;
     }
     Ok(())
@@ -191,38 +190,38 @@ fn denied_word(reason: &Reason) -> RowWord
 }
 
 /// What comes of the row.
-pub fn fate_of<'a, 'c, S: RowSource<'c>>(
+pub fn fate_of<'a, 'c>(
     alloc: Global,
-    source: &S,
+    catalog: &'c Catalog,
     context: CheckContext<'a, 'c>,
     condition: &Option<Expr>,
     stored: &BorrowedRow<'c>,
 ) -> Result<Fate, AllocError>
-    ensures { IfOk result (λ fate. fate ≡ finding.fate_found (S.state source.now) (shows context.entry.relations.now context.entry.role.now) context.entry.role.now context.entry.row_checks.now condition.now stored.now) }
+    ensures { IfOk result (λ fate. fate ≡ finding.fate_found catalog.now (shows context.entry.relations.now context.entry.role.now) context.entry.role.now context.entry.row_checks.now condition.now stored.now) }
 {
     let row = stored.row();
-    match hiding_of(alloc, source, context, stored.id(), row)? {
+    match hiding_of(alloc, catalog, context, stored.id(), row)? {
         Some(reason) => Ok(Fate::Denied(reason)),
-        None => fate_where(alloc, source, context, condition, row),
+        None => fate_where(alloc, catalog, context, condition, row),
     }
 }
 
 /// That of a row that no policy denies.
-fn fate_where<'a, 'c, S: RowSource<'c>>(
+fn fate_where<'a, 'c>(
     alloc: Global,
-    source: &S,
+    catalog: &'c Catalog,
     context: CheckContext<'a, 'c>,
     condition: &Option<Expr>,
     row: &Row,
 ) -> Result<Fate, AllocError>
-    ensures { IfOk result (λ fate. fate ≡ spec.fate_by None (finding.where_found (S.state source.now) (shows context.entry.relations.now context.entry.role.now) context.entry.role.now condition.now row.now)) }
+    ensures { IfOk result (λ fate. fate ≡ spec.fate_by None (finding.where_found catalog.now (shows context.entry.relations.now context.entry.role.now) context.entry.role.now condition.now row.now)) }
 {
     match condition {
         None => Ok(Fate::Met),
         Some(condition) => {
             let truth = truth_on(
                 alloc,
-                source,
+                catalog,
                 &*context.relations,
                 &*context.role,
                 row,
@@ -243,34 +242,34 @@ fn fate_by(truth: Truth) -> Fate
 }
 
 /// What denies the row as it stands.
-fn hiding_of<'a, 'c, S: RowSource<'c>>(
+fn hiding_of<'a, 'c>(
     alloc: Global,
-    source: &S,
+    catalog: &'c Catalog,
     context: CheckContext<'a, 'c>,
     id: RowId,
     row: &Row,
 ) -> Result<Option<Reason>, AllocError>
-    ensures { IfOk result (λ reason. reason ≡ spec.hiding_of (explained_checks (S.state source.now) (shows context.entry.relations.now context.entry.role.now) context.entry.role.now context.entry.row_checks.now id row.now)) }
+    ensures { IfOk result (λ reason. reason ≡ spec.hiding_of (explained_checks catalog.now (shows context.entry.relations.now context.entry.role.now) context.entry.role.now context.entry.row_checks.now id row.now)) }
 {
     let mut decided = Vec::new(alloc);
-    put_row(alloc, source, context, id, row, &mut decided)?;
+    put_row(alloc, catalog, context, id, row, &mut decided)?;
     let hiding = hiding_among(decided.as_slice());
     drop(decided);
     hiding
 }
 
 /// What denies a new row.
-pub fn denial_on<'a, 'c, S: RowSource<'c>>(
+pub fn denial_on<'a, 'c>(
     alloc: Global,
-    source: &S,
+    catalog: &'c Catalog,
     context: CheckContext<'a, 'c>,
     id: RowId,
     row: &Row,
 ) -> Result<Option<Reason>, AllocError>
-    ensures { IfOk result (λ reason. reason ≡ spec.denial_of (explained_checks (S.state source.now) (shows context.entry.relations.now context.entry.role.now) context.entry.role.now context.entry.row_checks.now id row.now)) }
+    ensures { IfOk result (λ reason. reason ≡ spec.denial_of (explained_checks catalog.now (shows context.entry.relations.now context.entry.role.now) context.entry.role.now context.entry.row_checks.now id row.now)) }
 {
     let mut decided = Vec::new(alloc);
-    put_row(alloc, source, context, id, row, &mut decided)?;
+    put_row(alloc, catalog, context, id, row, &mut decided)?;
     let denial = denial_among(decided.as_slice());
     drop(decided);
     denial

@@ -24,16 +24,17 @@ use rls_expr::{FromTable, TableDef};
 use rls_judging::CheckContext;
 use rls_meaning::rls_access::Ctx;
 use rls_meaning::rls_expansion::PolicyExpansion;
-use rls_meaning::rls_guard::rls_source::{Footprint, RowSource};
+use rls_meaning::rls_guard::rls_catalog::Catalog;
+use rls_meaning::rls_guard::rls_source::Footprint;
 use rls_statement::Insert;
 use rls_value::{Items, Kind, Name, Refusal, Row, RowId};
 use std::alloc::{AllocError, Global};
 
 /// What an INSERT did, which decided on this row.
 #[tactic(auto, using(crate::proofs::OutcomeLemmas::insert_decides_none))]
-pub fn insert_outcomes<'c, S: RowSource<'c>>(
+pub fn insert_outcomes(
     alloc: Global,
-    source: &mut S,
+    catalog: &Catalog,
     ctx: &Ctx,
     insert: &Insert,
     reads: bool,
@@ -41,21 +42,20 @@ pub fn insert_outcomes<'c, S: RowSource<'c>>(
     read: &Footprint,
     id: RowId,
 ) -> Result<Items<RowOutcome>, AllocError>
-    requires decides { Decides (S.state source.old) ctx.now (asked.Insert insert.now) (on_row id) }
-    requires reads { are_read (decisions_of (effect_of (S.state source.old) ctx.now (asked.Insert insert.now))) ≡ reads }
-    ensures rows { IfOk result (λ rows. rows ≡ finding.told_of (S.state source.old) ctx.now (asked.Insert insert.now) done read.now) }
-    ensures state { S.state source.new ≡ S.state source.old }
+    requires decides { Decides catalog.now ctx.now (asked.Insert insert.now) (on_row id) }
+    requires reads { are_read (decisions_of (effect_of catalog.now ctx.now (asked.Insert insert.now))) ≡ reads }
+    ensures { IfOk result (λ rows. rows ≡ finding.told_of catalog.now ctx.now (asked.Insert insert.now) done read.now) }
 {
-    match source.table(alloc, &insert.table)? {
-        Some(table) => inserted_outcomes(alloc, source, ctx, insert, table, reads, done, read, id),
+    match catalog.table(&insert.table) {
+        Some(table) => inserted_outcomes(alloc, catalog, ctx, insert, table, reads, done, read, id),
         None => Ok(Items::new(alloc)),
     }
 }
 
 /// The same of a table that is there.
-fn inserted_outcomes<'c, S: RowSource<'c>>(
+fn inserted_outcomes(
     alloc: Global,
-    source: &mut S,
+    catalog: &Catalog,
     ctx: &Ctx,
     insert: &Insert,
     table: &TableDef,
@@ -64,11 +64,10 @@ fn inserted_outcomes<'c, S: RowSource<'c>>(
     read: &Footprint,
     id: RowId,
 ) -> Result<Items<RowOutcome>, AllocError>
-    requires there { table_of (S.state source.old) insert.now.table ≡ Some table.now }
-    requires decides { Decides (S.state source.old) ctx.now (asked.Insert insert.now) (on_row id) }
-    requires reads { are_read (decisions_of (effect_of (S.state source.old) ctx.now (asked.Insert insert.now))) ≡ reads }
-    ensures rows { IfOk result (λ rows. rows ≡ finding.told_of (S.state source.old) ctx.now (asked.Insert insert.now) done read.now) }
-    ensures state { S.state source.new ≡ S.state source.old }
+    requires there { table_of catalog.now insert.now.table ≡ Some table.now }
+    requires decides { Decides catalog.now ctx.now (asked.Insert insert.now) (on_row id) }
+    requires reads { are_read (decisions_of (effect_of catalog.now ctx.now (asked.Insert insert.now))) ≡ reads }
+    ensures { IfOk result (λ rows. rows ≡ finding.told_of catalog.now ctx.now (asked.Insert insert.now) done read.now) }
 {
     outcomes_found();
     let from = FromTable {
@@ -77,16 +76,16 @@ fn inserted_outcomes<'c, S: RowSource<'c>>(
     };
     let returning = insert.returning.is_some();
     let ended = Ended { returning, done };
-    let parts = insert_parts(alloc, source, table, insert)?;
-    let rows = outcomes_by(alloc, source, ctx, from, &parts, reads, ended, read);
+    let parts = insert_parts(alloc, catalog, table, insert)?;
+    let rows = outcomes_by(alloc, catalog, ctx, from, &parts, reads, ended, read);
     drop(parts);
     rows
 }
 
 /// By the parts of the statement.
-fn outcomes_by<'c, 'x, S: RowSource<'c>>(
+fn outcomes_by<'x>(
     alloc: Global,
-    source: &mut S,
+    catalog: &Catalog,
     ctx: &Ctx,
     from: FromTable<'x>,
     parts: &InsertParts,
@@ -95,23 +94,22 @@ fn outcomes_by<'c, 'x, S: RowSource<'c>>(
     read: &Footprint,
 ) -> Result<Items<RowOutcome>, AllocError>
     requires { ctx.now.next + length parts.now.tuples ≤ 4294967295 }
-    ensures rows { IfOk result (λ rows. rows ≡ finding.insert_told (S.state source.old) ctx.now.role from.entry.name.now ctx.now.txn ctx.now.next from.entry.table.now.columns parts.now.places.items ended.returning ended.done read.now (tuples_tables parts.now.tuples) parts.now.tuples (expansion_found (S.state source.old) ctx.now.role (in_scope from.entry) Kind.Insert reads (tuples_tables parts.now.tuples))) }
-    ensures state { S.state source.new ≡ S.state source.old }
+    ensures { IfOk result (λ rows. rows ≡ finding.insert_told catalog.now ctx.now.role from.entry.name.now ctx.now.txn ctx.now.next from.entry.table.now.columns parts.now.places.items ended.returning ended.done read.now (tuples_tables parts.now.tuples) parts.now.tuples (expansion_found catalog.now ctx.now.role (in_scope from.entry) Kind.Insert reads (tuples_tables parts.now.tuples))) }
 {
     let queries = parts.tables(alloc)?;
     let looks = Looks {
         queries: queries.as_slice(),
         read,
     };
-    let rows = outcomes_looking(alloc, source, ctx, from, parts, reads, ended, looks);
+    let rows = outcomes_looking(alloc, catalog, ctx, from, parts, reads, ended, looks);
     drop(queries);
     rows
 }
 
 /// The same, where subqueries look at these tables.
-fn outcomes_looking<'c, 'x, S: RowSource<'c>>(
+fn outcomes_looking<'x>(
     alloc: Global,
-    source: &mut S,
+    catalog: &Catalog,
     ctx: &Ctx,
     from: FromTable<'x>,
     parts: &InsertParts,
@@ -120,21 +118,20 @@ fn outcomes_looking<'c, 'x, S: RowSource<'c>>(
     looks: Looks<'x>,
 ) -> Result<Items<RowOutcome>, AllocError>
     requires { ctx.now.next + length parts.now.tuples ≤ 4294967295 }
-    ensures rows { IfOk result (λ rows. rows ≡ finding.insert_told (S.state source.old) ctx.now.role from.entry.name.now ctx.now.txn ctx.now.next from.entry.table.now.columns parts.now.places.items ended.returning ended.done looks.entry.read.now looks.entry.queries.now parts.now.tuples (expansion_found (S.state source.old) ctx.now.role (in_scope from.entry) Kind.Insert reads looks.entry.queries.now)) }
-    ensures state { S.state source.new ≡ S.state source.old }
+    ensures { IfOk result (λ rows. rows ≡ finding.insert_told catalog.now ctx.now.role from.entry.name.now ctx.now.txn ctx.now.next from.entry.table.now.columns parts.now.places.items ended.returning ended.done looks.entry.read.now looks.entry.queries.now parts.now.tuples (expansion_found catalog.now ctx.now.role (in_scope from.entry) Kind.Insert reads looks.entry.queries.now)) }
 {
     let role = &ctx.role;
     let kind = Kind::Insert;
-    let found = expansion_if(alloc, source, role, from, kind, reads, looks.queries)?;
-    let rows = outcomes_if(alloc, source, ctx, from, parts, ended, looks, &found);
+    let found = expansion_if(alloc, catalog, role, from, kind, reads, looks.queries)?;
+    let rows = outcomes_if(alloc, catalog, ctx, from, parts, ended, looks, &found);
     drop(found);
     rows
 }
 
 /// The same under the policy expansion, if there is one.
-fn outcomes_if<'c, 'x, S: RowSource<'c>>(
+fn outcomes_if<'c, 'x>(
     alloc: Global,
-    source: &mut S,
+    catalog: &'c Catalog,
     ctx: &Ctx,
     from: FromTable<'x>,
     parts: &InsertParts,
@@ -143,24 +140,23 @@ fn outcomes_if<'c, 'x, S: RowSource<'c>>(
     found: &Option<PolicyExpansion<'c>>,
 ) -> Result<Items<RowOutcome>, AllocError>
     requires { ctx.now.next + length parts.now.tuples ≤ 4294967295 }
-    ensures rows { IfOk result (λ rows. rows ≡ finding.insert_told (S.state source.old) ctx.now.role from.entry.name.now ctx.now.txn ctx.now.next from.entry.table.now.columns parts.now.places.items ended.returning ended.done looks.entry.read.now looks.entry.queries.now parts.now.tuples found.now) }
-    ensures state { S.state source.new ≡ S.state source.old }
+    ensures { IfOk result (λ rows. rows ≡ finding.insert_told catalog.now ctx.now.role from.entry.name.now ctx.now.txn ctx.now.next from.entry.table.now.columns parts.now.places.items ended.returning ended.done looks.entry.read.now looks.entry.queries.now parts.now.tuples found.now) }
 {
     match found {
         Some(expansion) => {
             let role = &ctx.role;
             let context = new_rows(expansion, role);
-            let outcomes = outcomes_of_tuples(alloc, &*source, ctx, context, from, parts, ended)?;
-            with_seen(alloc, source, role, expansion, looks, outcomes)
+            let outcomes = outcomes_of_tuples(alloc, catalog, ctx, context, from, parts, ended)?;
+            with_seen(alloc, catalog, role, expansion, looks, outcomes)
         }
         None => Ok(Items::new(alloc)),
     }
 }
 
 /// The rows are numbered on from the transaction's next.
-fn outcomes_of_tuples<'a, 'c, 'x, S: RowSource<'c>>(
+fn outcomes_of_tuples<'a, 'c, 'x>(
     alloc: Global,
-    source: &S,
+    catalog: &'c Catalog,
     ctx: &Ctx,
     context: CheckContext<'a, 'c>,
     from: FromTable<'x>,
@@ -168,7 +164,7 @@ fn outcomes_of_tuples<'a, 'c, 'x, S: RowSource<'c>>(
     ended: Ended,
 ) -> Result<Items<RowOutcome>, AllocError>
     requires { ctx.now.next + length parts.now.tuples ≤ 4294967295 }
-    ensures { IfOk result (λ rows. rows ≡ finding.tuples_told (finding.tells_new (S.state source.now) (shows context.entry.relations.now context.entry.role.now) context.entry.role.now context.entry.row_checks.now from.entry.name.now ended.returning ended.done) (finding.tuple_written (S.state source.now) (shows context.entry.relations.now context.entry.role.now) context.entry.role.now from.entry.table.now.columns parts.now.places.items) ctx.now.txn ctx.now.next parts.now.tuples) }
+    ensures { IfOk result (λ rows. rows ≡ finding.tuples_told (finding.tells_new catalog.now (shows context.entry.relations.now context.entry.role.now) context.entry.role.now context.entry.row_checks.now from.entry.name.now ended.returning ended.done) (finding.tuple_written catalog.now (shows context.entry.relations.now context.entry.role.now) context.entry.role.now from.entry.table.now.columns parts.now.places.items) ctx.now.txn ctx.now.next parts.now.tuples) }
 {
     let mut outcomes = Vec::new(alloc);
     let mut n = ctx.next;
@@ -176,10 +172,10 @@ fn outcomes_of_tuples<'a, 'c, 'x, S: RowSource<'c>>(
         let id = RowId { txn: ctx.txn, n };
         let columns = from.table.columns.as_slice();
         let places = parts.places.as_slice();
-        let made = new_row(alloc, source, context, columns, places, tuple.as_slice());
+        let made = new_row(alloc, catalog, context, columns, places, tuple.as_slice());
         put_new(
             alloc,
-            source,
+            catalog,
             context,
             from.name,
             ended,
@@ -193,9 +189,9 @@ fn outcomes_of_tuples<'a, 'c, 'x, S: RowSource<'c>>(
 }
 
 /// Tells of a new row.
-fn put_new<'a, 'c, S: RowSource<'c>>(
+fn put_new<'a, 'c>(
     alloc: Global,
-    source: &S,
+    catalog: &'c Catalog,
     context: CheckContext<'a, 'c>,
     table: &Name,
     ended: Ended,
@@ -203,12 +199,12 @@ fn put_new<'a, 'c, S: RowSource<'c>>(
     made: Result<Row, Refusal>,
     outcomes: &mut Vec<RowOutcome>,
 ) -> Result<(), AllocError>
-    ensures { (given : Result (List SpecValue) SpecRefusal) → Gives made given → OnOk result (outcomes.new.items ≡ outcomes.old.items ++ finding.tells_new (S.state source.now) (shows context.entry.relations.now context.entry.role.now) context.entry.role.now context.entry.row_checks.now table.now ended.returning ended.done id given) }
+    ensures { (given : Result (List SpecValue) SpecRefusal) → Gives made given → OnOk result (outcomes.new.items ≡ outcomes.old.items ++ finding.tells_new catalog.now (shows context.entry.relations.now context.entry.role.now) context.entry.role.now context.entry.row_checks.now table.now ended.returning ended.done id given) }
 {
     if ended.done {
         put_inserted(alloc, table, ended.returning, id, made, outcomes)
     } else {
-        put_refused_one(alloc, source, context, table, id, made, outcomes)
+        put_refused_one(alloc, catalog, context, table, id, made, outcomes)
     }
 }
 

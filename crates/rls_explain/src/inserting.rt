@@ -22,64 +22,62 @@ use rls_expr::{Column, Expr, FromTable, TableDef};
 use rls_judging::CheckContext;
 use rls_meaning::rls_access::Ctx;
 use rls_meaning::rls_expansion::PolicyExpansion;
+use rls_meaning::rls_guard::rls_catalog::Catalog;
 use rls_meaning::rls_guard::rls_evaluation::{Env, Scoped};
-use rls_meaning::rls_guard::rls_source::RowSource;
 use rls_statement::Insert;
 use rls_value::{Items, Kind, Refusal, Row, RowId, Value};
 use std::alloc::{AllocError, Global};
 
 /// Explains the decisions of an INSERT that are wanted.
 #[tactic(auto, using(crate::proofs::DecidedLemmas::insert_without_table))]
-pub fn explain_insert<'c, S: RowSource<'c>>(
+pub fn explain_insert(
     alloc: Global,
-    source: &mut S,
+    catalog: &Catalog,
     ctx: &Ctx,
     insert: &Insert,
     reads: bool,
     wanted: Wanted,
 ) -> Result<Items<Explained>, AllocError>
-    requires decided { spec.is_decided wanted (decisions_of (effect_of (S.state source.old) ctx.now (asked.Insert insert.now))) ≡ true }
-    requires reads { spec.are_read (decisions_of (effect_of (S.state source.old) ctx.now (asked.Insert insert.now))) ≡ reads }
-    ensures row { IfOk result (λ explained. explained ≡ explained_in (S.state source.old) ctx.now (asked.Insert insert.now) (Some wanted)) }
-    ensures state { S.state source.new ≡ S.state source.old }
+    requires decided { spec.is_decided wanted (decisions_of (effect_of catalog.now ctx.now (asked.Insert insert.now))) ≡ true }
+    requires reads { spec.are_read (decisions_of (effect_of catalog.now ctx.now (asked.Insert insert.now))) ≡ reads }
+    ensures { IfOk result (λ explained. explained ≡ explained_in catalog.now ctx.now (asked.Insert insert.now) (Some wanted)) }
 {
-    match source.table(alloc, &insert.table)? {
-        Some(table) => explain_inserted(alloc, source, ctx, insert, table, reads, wanted),
+    match catalog.table(&insert.table) {
+        Some(table) => explain_inserted(alloc, catalog, ctx, insert, table, reads, wanted),
         None => Ok(Items::new(alloc)),
     }
 }
 
 /// The same of a table that is there.
-fn explain_inserted<'c, S: RowSource<'c>>(
+fn explain_inserted(
     alloc: Global,
-    source: &mut S,
+    catalog: &Catalog,
     ctx: &Ctx,
     insert: &Insert,
     table: &TableDef,
     reads: bool,
     wanted: Wanted,
 ) -> Result<Items<Explained>, AllocError>
-    requires there { table_of (S.state source.old) insert.now.table ≡ Some table.now }
-    requires decided { spec.is_decided wanted (decisions_of (effect_of (S.state source.old) ctx.now (asked.Insert insert.now))) ≡ true }
-    requires reads { spec.are_read (decisions_of (effect_of (S.state source.old) ctx.now (asked.Insert insert.now))) ≡ reads }
-    ensures row { IfOk result (λ explained. explained ≡ explained_in (S.state source.old) ctx.now (asked.Insert insert.now) (Some wanted)) }
-    ensures state { S.state source.new ≡ S.state source.old }
+    requires there { table_of catalog.now insert.now.table ≡ Some table.now }
+    requires decided { spec.is_decided wanted (decisions_of (effect_of catalog.now ctx.now (asked.Insert insert.now))) ≡ true }
+    requires reads { spec.are_read (decisions_of (effect_of catalog.now ctx.now (asked.Insert insert.now))) ≡ reads }
+    ensures { IfOk result (λ explained. explained ≡ explained_in catalog.now ctx.now (asked.Insert insert.now) (Some wanted)) }
 {
     decisions_found();
     let from = FromTable {
         name: &insert.table,
         table,
     };
-    let parts = insert_parts(alloc, source, table, insert)?;
-    let explained = explain_parts(alloc, source, ctx, from, &parts, reads, wanted);
+    let parts = insert_parts(alloc, catalog, table, insert)?;
+    let explained = explain_parts(alloc, catalog, ctx, from, &parts, reads, wanted);
     drop(parts);
     explained
 }
 
 /// Explains the decisions by the parts of the statement.
-fn explain_parts<'c, 'x, S: RowSource<'c>>(
+fn explain_parts<'x>(
     alloc: Global,
-    source: &mut S,
+    catalog: &Catalog,
     ctx: &Ctx,
     from: FromTable<'x>,
     parts: &InsertParts,
@@ -87,14 +85,13 @@ fn explain_parts<'c, 'x, S: RowSource<'c>>(
     wanted: Wanted,
 ) -> Result<Items<Explained>, AllocError>
     requires { ctx.now.next + length parts.now.tuples ≤ 4294967295 }
-    ensures row { IfOk result (λ explained. explained ≡ spec.insert_found (S.state source.old) ctx.now.role (in_scope from.entry) wanted ctx.now.txn ctx.now.next from.entry.table.now.columns parts.now.places.items parts.now.tuples (spec.expansion_found (S.state source.old) ctx.now.role (in_scope from.entry) Kind.Insert reads (tuples_tables parts.now.tuples))) }
-    ensures state { S.state source.new ≡ S.state source.old }
+    ensures { IfOk result (λ explained. explained ≡ spec.insert_found catalog.now ctx.now.role (in_scope from.entry) wanted ctx.now.txn ctx.now.next from.entry.table.now.columns parts.now.places.items parts.now.tuples (spec.expansion_found catalog.now ctx.now.role (in_scope from.entry) Kind.Insert reads (tuples_tables parts.now.tuples))) }
 {
     let queries = parts.tables(alloc)?;
     let kind = Kind::Insert;
     let found = expansion_if(
         alloc,
-        source,
+        catalog,
         &ctx.role,
         from,
         kind,
@@ -103,15 +100,15 @@ fn explain_parts<'c, 'x, S: RowSource<'c>>(
     );
     drop(queries);
     let found = found?;
-    let explained = explain_if(alloc, source, ctx, from, parts, wanted, &found);
+    let explained = explain_if(alloc, catalog, ctx, from, parts, wanted, &found);
     drop(found);
     explained
 }
 
 /// The same under the policy expansion, if there is one.
-fn explain_if<'c, 'x, S: RowSource<'c>>(
+fn explain_if<'c, 'x>(
     alloc: Global,
-    source: &mut S,
+    catalog: &'c Catalog,
     ctx: &Ctx,
     from: FromTable<'x>,
     parts: &InsertParts,
@@ -119,18 +116,17 @@ fn explain_if<'c, 'x, S: RowSource<'c>>(
     found: &Option<PolicyExpansion<'c>>,
 ) -> Result<Items<Explained>, AllocError>
     requires { ctx.now.next + length parts.now.tuples ≤ 4294967295 }
-    ensures row { IfOk result (λ explained. explained ≡ spec.insert_found (S.state source.old) ctx.now.role (in_scope from.entry) wanted ctx.now.txn ctx.now.next from.entry.table.now.columns parts.now.places.items parts.now.tuples found.now) }
-    ensures state { S.state source.new ≡ S.state source.old }
+    ensures { IfOk result (λ explained. explained ≡ spec.insert_found catalog.now ctx.now.role (in_scope from.entry) wanted ctx.now.txn ctx.now.next from.entry.table.now.columns parts.now.places.items parts.now.tuples found.now) }
 {
     match found {
-        Some(expansion) => explain_under(alloc, source, ctx, from, parts, wanted, expansion),
+        Some(expansion) => explain_under(alloc, catalog, ctx, from, parts, wanted, expansion),
         None => Ok(Items::new(alloc)),
     }
 }
 
-fn explain_under<'c, 'x, S: RowSource<'c>>(
+fn explain_under<'c, 'x>(
     alloc: Global,
-    source: &mut S,
+    catalog: &'c Catalog,
     ctx: &Ctx,
     from: FromTable<'x>,
     parts: &InsertParts,
@@ -138,21 +134,20 @@ fn explain_under<'c, 'x, S: RowSource<'c>>(
     expansion: &PolicyExpansion<'c>,
 ) -> Result<Items<Explained>, AllocError>
     requires { ctx.now.next + length parts.now.tuples ≤ 4294967295 }
-    ensures row { IfOk result (λ explained. explained ≡ spec.insert_found (S.state source.old) ctx.now.role (in_scope from.entry) wanted ctx.now.txn ctx.now.next from.entry.table.now.columns parts.now.places.items parts.now.tuples (Some expansion.now)) }
-    ensures state { S.state source.new ≡ S.state source.old }
+    ensures { IfOk result (λ explained. explained ≡ spec.insert_found catalog.now ctx.now.role (in_scope from.entry) wanted ctx.now.txn ctx.now.next from.entry.table.now.columns parts.now.places.items parts.now.tuples (Some expansion.now)) }
 {
     let role = &ctx.role;
     let context = new_rows(expansion, role);
     let columns = from.table.columns.as_slice();
-    let explained = explain_tuples(alloc, &*source, ctx, context, columns, parts, wanted)?;
+    let explained = explain_tuples(alloc, catalog, ctx, context, columns, parts, wanted)?;
     let relations = expansion.relations.as_slice();
-    detailed_if(alloc, source, wanted.long, role, from, relations, explained)
+    detailed_if(alloc, catalog, wanted.long, role, from, relations, explained)
 }
 
 /// The rows are numbered on from the transaction's next.
-fn explain_tuples<'a, 'c, S: RowSource<'c>>(
+fn explain_tuples<'a, 'c>(
     alloc: Global,
-    source: &S,
+    catalog: &'c Catalog,
     ctx: &Ctx,
     context: CheckContext<'a, 'c>,
     columns: &[Column],
@@ -160,7 +155,7 @@ fn explain_tuples<'a, 'c, S: RowSource<'c>>(
     wanted: Wanted,
 ) -> Result<Vec<Explained>, AllocError>
     requires { ctx.now.next + length parts.now.tuples ≤ 4294967295 }
-    ensures { IfOk result (λ explained. explained.items ≡ spec.tuples_found (S.state source.now) (shows context.entry.relations.now context.entry.role.now) context.entry.role.now context.entry.row_checks.now columns.now parts.now.places.items wanted ctx.now.txn ctx.now.next parts.now.tuples) }
+    ensures { IfOk result (λ explained. explained.items ≡ spec.tuples_found catalog.now (shows context.entry.relations.now context.entry.role.now) context.entry.role.now context.entry.row_checks.now columns.now parts.now.places.items wanted ctx.now.txn ctx.now.next parts.now.tuples) }
 {
     let mut explained = Vec::new(alloc);
     let mut n = ctx.next;
@@ -170,7 +165,7 @@ fn explain_tuples<'a, 'c, S: RowSource<'c>>(
         if is_wanted(wanted, own) {
             put_new(
                 alloc,
-                source,
+                catalog,
                 context,
                 columns,
                 places,
@@ -185,9 +180,9 @@ fn explain_tuples<'a, 'c, S: RowSource<'c>>(
 }
 
 /// Explains the decisions on the row of the tuple; none where a value is out of range.
-fn put_new<'a, 'c, S: RowSource<'c>>(
+fn put_new<'a, 'c>(
     alloc: Global,
-    source: &S,
+    catalog: &'c Catalog,
     context: CheckContext<'a, 'c>,
     columns: &[Column],
     places: &[usize],
@@ -195,11 +190,11 @@ fn put_new<'a, 'c, S: RowSource<'c>>(
     tuple: &[Expr],
     explained: &mut Vec<Explained>,
 ) -> Result<(), AllocError>
-    ensures { OnOk result (explained.new.items ≡ explained.old.items ++ spec.new_found (S.state source.now) (shows context.entry.relations.now context.entry.role.now) context.entry.role.now context.entry.row_checks.now id (spec.row_written (S.state source.now) (shows context.entry.relations.now context.entry.role.now) (alone context.entry.role.now) columns.now places.now tuple.now (spec_nulls columns.now))) }
+    ensures { OnOk result (explained.new.items ≡ explained.old.items ++ spec.new_found catalog.now (shows context.entry.relations.now context.entry.role.now) context.entry.role.now context.entry.row_checks.now id (spec.row_written catalog.now (shows context.entry.relations.now context.entry.role.now) (alone context.entry.role.now) columns.now places.now tuple.now (spec_nulls columns.now))) }
 {
-    match new_row(alloc, source, context, columns, places, tuple) {
+    match new_row(alloc, catalog, context, columns, places, tuple) {
         Ok(row) => {
-            let put = put_row(alloc, source, context, id, &row, explained);
+            let put = put_row(alloc, catalog, context, id, &row, explained);
             drop(row);
             put
         }
@@ -212,15 +207,15 @@ fn put_new<'a, 'c, S: RowSource<'c>>(
 }
 
 /// The row of the tuple; columns without a value are null.
-pub fn new_row<'a, 'c, S: RowSource<'c>>(
+pub fn new_row<'a, 'c>(
     alloc: Global,
-    source: &S,
+    catalog: &'c Catalog,
     context: CheckContext<'a, 'c>,
     columns: &[Column],
     places: &[usize],
     tuple: &[Expr],
 ) -> Result<Row, Refusal>
-    ensures { Gives result (spec.row_written (S.state source.now) (shows context.entry.relations.now context.entry.role.now) (alone context.entry.role.now) columns.now places.now tuple.now (spec_nulls columns.now)) }
+    ensures { Gives result (spec.row_written catalog.now (shows context.entry.relations.now context.entry.role.now) (alone context.entry.role.now) columns.now places.now tuple.now (spec_nulls columns.now)) }
 {
     let row = nulls(alloc, columns)?;
     let env = Env {
@@ -229,7 +224,7 @@ pub fn new_row<'a, 'c, S: RowSource<'c>>(
     };
     row_written(
         alloc,
-        source,
+        catalog,
         context.relations,
         &env,
         columns,

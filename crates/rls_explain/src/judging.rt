@@ -10,52 +10,51 @@ ghost use Rattle.rls_explain.specs.Found as spec;
 use crate::explanation::{Explained, Said, Wanted};
 use rls_expr::{Expr, Policy};
 use rls_judging::CheckContext;
-use rls_meaning::rls_guard::rls_catalog::{BorrowedRow, Side, Verdict};
+use rls_meaning::rls_guard::rls_catalog::{BorrowedRow, Catalog, Side, Verdict};
 use rls_meaning::rls_guard::rls_evaluation::{
     Env, ExecutionState, Looked, Scoped, SecuredRelation, SecurityQuals, Tables, VisibleRelations,
     eval,
 };
 use rls_meaning::rls_guard::rls_policy::combine;
-use rls_meaning::rls_guard::rls_source::RowSource;
 use rls_meaning::rls_guard::{Decision, Judgement, RowCheck};
 use rls_value::{Items, Kind, Name, Reference, Row, RowId, Truth, or_drop};
 use std::alloc::{AllocError, Global};
 use std::cmp::Ordering;
 
 /// Explains the decisions on the rows that are wanted, behind those that are there.
-pub fn put_rows<'a, 'c, S: RowSource<'c>>(
+pub fn put_rows<'a, 'c>(
     alloc: Global,
-    source: &S,
+    catalog: &'c Catalog,
     context: CheckContext<'a, 'c>,
     wanted: Wanted,
     rows: &[BorrowedRow<'c>],
     explained: &mut Vec<Explained>,
 ) -> Result<(), AllocError>
-    ensures { OnOk result (explained.new.items ≡ explained.old.items ++ spec.rows_found (S.state source.now) (shows context.entry.relations.now context.entry.role.now) context.entry.role.now context.entry.row_checks.now wanted rows.now) }
+    ensures { OnOk result (explained.new.items ≡ explained.old.items ++ spec.rows_found catalog.now (shows context.entry.relations.now context.entry.role.now) context.entry.role.now context.entry.row_checks.now wanted rows.now) }
 {
     for stored in rows {
         if is_wanted(wanted, stored.id()) {
-            put_row(alloc, source, context, stored.id(), stored.row(), explained)?;
+            put_row(alloc, catalog, context, stored.id(), stored.row(), explained)?;
         }
     }
     Ok(())
 }
 
 /// Explains the decisions on a row, behind those that are there.
-pub fn put_row<'a, 'c, S: RowSource<'c>>(
+pub fn put_row<'a, 'c>(
     alloc: Global,
-    source: &S,
+    catalog: &'c Catalog,
     context: CheckContext<'a, 'c>,
     id: RowId,
     row: &Row,
     explained: &mut Vec<Explained>,
 ) -> Result<(), AllocError>
-    ensures { OnOk result (explained.new.items ≡ explained.old.items ++ spec.explained_checks (S.state source.now) (shows context.entry.relations.now context.entry.role.now) context.entry.role.now context.entry.row_checks.now id row.now) }
+    ensures { OnOk result (explained.new.items ≡ explained.old.items ++ spec.explained_checks catalog.now (shows context.entry.relations.now context.entry.role.now) context.entry.role.now context.entry.row_checks.now id row.now) }
 {
     for row_check in context.row_checks {
         let one = explain_check(
             alloc,
-            source,
+            catalog,
             context.relations,
             context.role,
             row_check,
@@ -68,16 +67,16 @@ pub fn put_row<'a, 'c, S: RowSource<'c>>(
 }
 
 /// Explains one of them.
-fn explain_check<'c, S: RowSource<'c>>(
+fn explain_check<'c>(
     alloc: Global,
-    source: &S,
+    catalog: &'c Catalog,
     relations: &[SecuredRelation<'c>],
     role: &Name,
     row_check: &RowCheck<'c>,
     id: RowId,
     row: &Row,
 ) -> Result<Explained, AllocError>
-    ensures { IfOk result (λ one. one ≡ spec.explained_check (S.state source.now) (shows relations.now role.now) role.now id row.now row_check.now) }
+    ensures { IfOk result (λ one. one ≡ spec.explained_check catalog.now (shows relations.now role.now) role.now id row.now row_check.now) }
 {
     let side = row_check.side;
     let kind = row_check.kind;
@@ -95,7 +94,7 @@ fn explain_check<'c, S: RowSource<'c>>(
         }),
         SecurityQuals::Policies(conditions) => {
             let conditions = conditions.as_slice();
-            let judgements = judgements_on(alloc, source, relations, role, row, conditions)?;
+            let judgements = judgements_on(alloc, catalog, relations, role, row, conditions)?;
             let one = explain_by(alloc, id, row, side, kind, &judgements);
             drop(judgements);
             one
@@ -160,52 +159,52 @@ fn said_by(judgement: &Judgement<'_>) -> Result<Said, AllocError>
 }
 
 /// Each policy, and what its condition says of the row.
-fn judgements_on<'c, S: RowSource<'c>>(
+fn judgements_on<'c>(
     alloc: Global,
-    source: &S,
+    catalog: &'c Catalog,
     relations: &[SecuredRelation<'c>],
     role: &Name,
     row: &Row,
     conditions: &[(Reference<'c, Policy>, Expr)],
 ) -> Result<Vec<Judgement<'c>>, AllocError>
-    ensures { IfOk result (λ judgements. judgements.items ≡ spec.judgements_found (S.state source.now) (shows relations.now role.now) role.now row.now conditions.now) }
+    ensures { IfOk result (λ judgements. judgements.items ≡ spec.judgements_found catalog.now (shows relations.now role.now) role.now row.now conditions.now) }
 {
     let mut judgements = Vec::with_capacity(alloc, conditions.len())?;
     for condition in conditions {
-        judgements.push(judgement_on(alloc, source, relations, role, row, condition)?)?;
+        judgements.push(judgement_on(alloc, catalog, relations, role, row, condition)?)?;
     }
     Ok(judgements)
 }
 
 /// One of them.
-fn judgement_on<'c, S: RowSource<'c>>(
+fn judgement_on<'c>(
     alloc: Global,
-    source: &S,
+    catalog: &'c Catalog,
     relations: &[SecuredRelation<'c>],
     role: &Name,
     row: &Row,
     condition: &(Reference<'c, Policy>, Expr),
 ) -> Result<Judgement<'c>, AllocError>
-    ensures { IfOk result (λ judgement. judgement ≡ spec.judgement_found (S.state source.now) (shows relations.now role.now) role.now row.now condition.now) }
+    ensures { IfOk result (λ judgement. judgement ≡ spec.judgement_found catalog.now (shows relations.now role.now) role.now row.now condition.now) }
 {
     let (policy, condition) = condition;
-    let truth = truth_on(alloc, source, relations, role, row, condition)?;
+    let truth = truth_on(alloc, catalog, relations, role, row, condition)?;
     Ok((Reference::new(policy.get()), truth))
 }
 
 /// What the condition says of the row, which alone is in scope.
-pub fn truth_on<'s, 'a, 'c, S: RowSource<'c>>(
+pub fn truth_on<'a, 'c>(
     alloc: Global,
-    source: &'s S,
+    catalog: &'c Catalog,
     relations: &'a [SecuredRelation<'c>],
     role: &'a Name,
     row: &'a Row,
     condition: &'a Expr,
 ) -> Result<Truth, AllocError>
-    ensures { IfOk result (λ truth. truth ≡ truth_in (spec.value_found (S.state source.now) (shows relations.now role.now) (over role.now row.now) condition.now)) }
+    ensures { IfOk result (λ truth. truth ≡ truth_in (spec.value_found catalog.now (shows relations.now role.now) (over role.now row.now) condition.now)) }
 {
     let mut execution = ExecutionState::new(alloc);
-    let mut tables: Looked<'s, 'c, S> = Looked::new(source);
+    let mut tables = Looked::new(catalog);
     let truth = truth_over(
         alloc,
         &mut tables,

@@ -13,45 +13,43 @@ use crate::subterms::{Subterm, subterms_of};
 use crate::telling::seen_by;
 use crate::valuing::{Judged, value_on};
 use rls_expr::{Expr, Node, Subquery};
-use rls_meaning::rls_guard::rls_source::RowSource;
+use rls_meaning::rls_guard::rls_catalog::Catalog;
 use rls_value::{Items, or_drop};
 use std::alloc::{AllocError, Global};
 
 /// The parts of the condition as it is written, each with what it comes to once its columns are resolved.
-pub fn parts_of<'a, 'c, S: RowSource<'c>>(
+pub fn parts_of<'a, 'c>(
     alloc: Global,
-    source: &mut S,
+    catalog: &'c Catalog,
     judged: Judged<'a, 'c>,
     written: &Expr,
     resolved: &Expr,
 ) -> Result<Items<Part>, AllocError>
-    ensures parts { IfOk result (λ parts. parts ≡ spec.parts_by (S.state source.old) (sight_found (S.state source.old) judged.entry.relations.now judged.entry.role.now) (over judged.entry.role.now judged.entry.row.now) (spec.parts_at 0 written.now) (spec.parts_at 0 resolved.now)) }
-    ensures state { S.state source.new ≡ S.state source.old }
+    ensures { IfOk result (λ parts. parts ≡ spec.parts_by catalog.now (sight_found catalog.now judged.entry.relations.now judged.entry.role.now) (over judged.entry.role.now judged.entry.row.now) (spec.parts_at 0 written.now) (spec.parts_at 0 resolved.now)) }
 {
     let written = subterms_of(alloc, written)?;
     let resolved = or_drop!(subterms_of(alloc, resolved), written);
-    let parts = parts_beside(alloc, source, judged, &written, &resolved);
+    let parts = parts_beside(alloc, catalog, judged, &written, &resolved);
     drop(written);
     drop(resolved);
     parts
 }
 
-fn parts_beside<'a, 'c, 'x, S: RowSource<'c>>(
+fn parts_beside<'a, 'c, 'x>(
     alloc: Global,
-    source: &mut S,
+    catalog: &'c Catalog,
     judged: Judged<'a, 'c>,
     written: &[Subterm<'x>],
     resolved: &[Subterm<'x>],
 ) -> Result<Items<Part>, AllocError>
-    ensures parts { IfOk result (λ parts. parts ≡ spec.parts_by (S.state source.old) (sight_found (S.state source.old) judged.entry.relations.now judged.entry.role.now) (over judged.entry.role.now judged.entry.row.now) (map subterm_of written.now) (map subterm_of resolved.now)) }
-    ensures state { S.state source.new ≡ S.state source.old }
+    ensures { IfOk result (λ parts. parts ≡ spec.parts_by catalog.now (sight_found catalog.now judged.entry.relations.now judged.entry.role.now) (over judged.entry.role.now judged.entry.row.now) (map subterm_of written.now) (map subterm_of resolved.now)) }
 {
     let mut parts = Vec::with_capacity(alloc, written.len())?;
     let mut left = resolved;
     for subterm in written {
         match left {
             [one, more @ ..] => {
-                let part = part_of(alloc, source, judged, subterm, one.expr)?;
+                let part = part_of(alloc, catalog, judged, subterm, one.expr)?;
                 parts.push(part)?;
                 left = more;
             }
@@ -62,19 +60,18 @@ fn parts_beside<'a, 'c, 'x, S: RowSource<'c>>(
 }
 
 /// One of them.
-fn part_of<'a, 'c, 'x, S: RowSource<'c>>(
+fn part_of<'a, 'c, 'x>(
     alloc: Global,
-    source: &mut S,
+    catalog: &'c Catalog,
     judged: Judged<'a, 'c>,
     written: &Subterm<'x>,
     resolved: &Expr,
 ) -> Result<Part, AllocError>
-    ensures part { IfOk result (λ part. part ≡ spec.part_by (S.state source.old) (sight_found (S.state source.old) judged.entry.relations.now judged.entry.role.now) (over judged.entry.role.now judged.entry.row.now) written.now.level written.now.expr.now resolved.now) }
-    ensures state { S.state source.new ≡ S.state source.old }
+    ensures { IfOk result (λ part. part ≡ spec.part_by catalog.now (sight_found catalog.now judged.entry.relations.now judged.entry.role.now) (over judged.entry.role.now judged.entry.row.now) written.now.level written.now.expr.now resolved.now) }
 {
-    let value = value_on(alloc, &*source, judged, resolved)?;
-    let values = or_drop!(with_values(alloc, source, judged, resolved), value);
-    let sees = or_drop!(seen_in(alloc, source, judged, resolved), value, values);
+    let value = value_on(alloc, catalog, judged, resolved)?;
+    let values = or_drop!(with_values(alloc, catalog, judged, resolved), value);
+    let sees = or_drop!(seen_in(alloc, catalog, judged, resolved), value, values);
     let expression = or_drop!(written.expr.copy(alloc), value, values, sees);
     Ok(Part {
         level: written.level,
@@ -86,17 +83,16 @@ fn part_of<'a, 'c, 'x, S: RowSource<'c>>(
 }
 
 /// The rows that the part's own subquery sees, if it has one.
-fn seen_in<'a, 'c, S: RowSource<'c>>(
+fn seen_in<'a, 'c>(
     alloc: Global,
-    source: &mut S,
+    catalog: &'c Catalog,
     judged: Judged<'a, 'c>,
     expr: &Expr,
 ) -> Result<Option<Seen>, AllocError>
-    ensures seen { IfOk result (λ seen. seen ≡ option_map (spec.seen_by (S.state source.old) (sight_found (S.state source.old) judged.entry.relations.now judged.entry.role.now) (over judged.entry.role.now judged.entry.row.now)) (spec.query_in expr.now)) }
-    ensures state { S.state source.new ≡ S.state source.old }
+    ensures { IfOk result (λ seen. seen ≡ option_map (spec.seen_by catalog.now (sight_found catalog.now judged.entry.relations.now judged.entry.role.now) (over judged.entry.role.now judged.entry.row.now)) (spec.query_in expr.now)) }
 {
     match query_in(expr) {
-        Some(query) => match seen_by(alloc, source, judged, query) {
+        Some(query) => match seen_by(alloc, catalog, judged, query) {
             Ok(seen) => Ok(Some(seen)),
             Err(refused) => Err(refused),
         },

@@ -11,8 +11,8 @@ ghost use Rattle.rls_explain.specs.Found as spec;
 
 use rls_expr::{Column, Expr, FromTable, NamedTable, Scope, TableDef, resolve_columns};
 use rls_meaning::rls_expansion::{put_all_tables, put_tables, put_tables_if};
+use rls_meaning::rls_guard::rls_catalog::Catalog;
 use rls_meaning::rls_guard::Found;
-use rls_meaning::rls_guard::rls_source::RowSource;
 use rls_statement::{Assignment, Insert, Update};
 use rls_value::{Items, Name};
 use std::alloc::{AllocError, Global};
@@ -55,17 +55,16 @@ impl InsertParts {
 
 /// The condition, which is over the table.
 #[tactic(auto, using(crate::proofs::ResolvingLemmas::condition_resolved))]
-pub fn condition_in<'c, 'x, S: RowSource<'c>>(
+pub fn condition_in<'x>(
     alloc: Global,
-    source: &mut S,
+    catalog: &Catalog,
     from: FromTable<'x>,
     condition: &Option<Expr>,
 ) -> Result<Option<Expr>, AllocError>
-    ensures condition { IfOk result (λ it. it ≡ option_map (resolved (S.state source.old) (in_scope from.entry ∷ [])) condition.now) }
-    ensures state { S.state source.new ≡ S.state source.old }
+    ensures { IfOk result (λ it. it ≡ option_map (resolved catalog.now (in_scope from.entry ∷ [])) condition.now) }
 {
     let names = tables_of(alloc, condition)?;
-    let found = found_for(alloc, source, names.as_slice());
+    let found = found_for(alloc, catalog, names.as_slice());
     drop(names);
     let found = found?;
     let condition = condition_over(alloc, from, found.as_slice(), condition);
@@ -75,17 +74,16 @@ pub fn condition_in<'c, 'x, S: RowSource<'c>>(
 
 /// The expression, which is over the table.
 #[tactic(auto, using(crate::proofs::ResolvingLemmas::expr_resolved))]
-pub fn expr_in<'c, 'x, S: RowSource<'c>>(
+pub fn expr_in<'x>(
     alloc: Global,
-    source: &mut S,
+    catalog: &Catalog,
     from: FromTable<'x>,
     expr: &Expr,
 ) -> Result<Expr, AllocError>
-    ensures expr { IfOk result (λ it. it ≡ resolved (S.state source.old) (in_scope from.entry ∷ []) expr.now) }
-    ensures state { S.state source.new ≡ S.state source.old }
+    ensures { IfOk result (λ it. it ≡ resolved catalog.now (in_scope from.entry ∷ []) expr.now) }
 {
     let names = tables_of_expr(alloc, expr)?;
-    let found = found_for(alloc, source, names.as_slice());
+    let found = found_for(alloc, catalog, names.as_slice());
     drop(names);
     let found = found?;
     let resolved = expr_over(alloc, from, found.as_slice(), expr);
@@ -112,19 +110,18 @@ pub fn tables_of(alloc: Global, condition: &Option<Expr>) -> Result<Items<Name>,
 
 /// The parts of an UPDATE of the table.
 #[tactic(auto, using(crate::proofs::ResolvingLemmas::values_resolved, crate::proofs::ResolvingLemmas::where_resolved))]
-pub fn update_parts<'c, 'x, S: RowSource<'c>>(
+pub fn update_parts<'x>(
     alloc: Global,
-    source: &mut S,
+    catalog: &Catalog,
     from: FromTable<'x>,
     update: &Update,
 ) -> Result<UpdateParts, AllocError>
     ensures places { IfOk result (λ parts. parts.places.items ≡ spec.places_set from.entry.table.now.columns update.now.assignments) }
-    ensures values { IfOk result (λ parts. parts.values ≡ map (resolved (S.state source.old) (in_scope from.entry ∷ [])) (map (λ assignment. assignment.value) update.now.assignments)) }
-    ensures condition { IfOk result (λ parts. parts.condition ≡ option_map (resolved (S.state source.old) (in_scope from.entry ∷ [])) update.now.condition) }
-    ensures state { S.state source.new ≡ S.state source.old }
+    ensures values { IfOk result (λ parts. parts.values ≡ map (resolved catalog.now (in_scope from.entry ∷ [])) (map (λ assignment. assignment.value) update.now.assignments)) }
+    ensures condition { IfOk result (λ parts. parts.condition ≡ option_map (resolved catalog.now (in_scope from.entry ∷ [])) update.now.condition) }
 {
     let names = tables_of_update(alloc, update)?;
-    let found = found_for(alloc, source, names.as_slice());
+    let found = found_for(alloc, catalog, names.as_slice());
     drop(names);
     let found = found?;
     let parts = update_over(alloc, from, found.as_slice(), update);
@@ -257,18 +254,17 @@ fn expr_over<'x>(
 
 /// The parts of an INSERT into the table.
 #[tactic(auto, using(crate::proofs::ResolvingLemmas::tuples_resolved))]
-pub fn insert_parts<'c, S: RowSource<'c>>(
+pub fn insert_parts(
     alloc: Global,
-    source: &mut S,
+    catalog: &Catalog,
     table: &TableDef,
     insert: &Insert,
 ) -> Result<InsertParts, AllocError>
     ensures places { IfOk result (λ parts. parts.places.items ≡ spec.places_given table.now.columns insert.now.columns) }
-    ensures tuples { IfOk result (λ parts. parts.tuples ≡ map (map (resolved (S.state source.old) [])) insert.now.tuples) }
-    ensures state { S.state source.new ≡ S.state source.old }
+    ensures tuples { IfOk result (λ parts. parts.tuples ≡ map (map (resolved catalog.now [])) insert.now.tuples) }
 {
     let names = tables_of_tuples(alloc, insert.tuples.as_slice())?;
-    let found = found_for(alloc, source, names.as_slice());
+    let found = found_for(alloc, catalog, names.as_slice());
     drop(names);
     let found = found?;
     let parts = insert_over(alloc, table, found.as_slice(), insert);
@@ -368,17 +364,16 @@ fn tuple_over<'x>(
 }
 
 /// The tables of these names that are there.
-fn found_for<'c, S: RowSource<'c>>(
+fn found_for<'c>(
     alloc: Global,
-    source: &mut S,
+    catalog: &'c Catalog,
     names: &[Name],
 ) -> Result<Found<'c>, AllocError>
-    ensures found { IfOk result (λ found. found ≡ spec.found_by (S.state source.old) names.now) }
-    ensures state { S.state source.new ≡ S.state source.old }
+    ensures { IfOk result (λ found. found ≡ spec.found_by catalog.now names.now) }
 {
     let mut found = Items::new(alloc);
     for name in names {
-        if let Some(table) = source.table(alloc, name)? {
+        if let Some(table) = catalog.table(name) {
             found.push(NamedTable::new(name, table)?)?;
         }
     }

@@ -13,31 +13,31 @@ use crate::outcome::RowOutcome;
 use crate::scan_outcomes::{delete_outcomes, select_outcomes};
 use crate::update_outcomes::update_outcomes;
 use rls_meaning::rls_access::{Ctx, Decision, Effect};
-use rls_meaning::rls_guard::rls_source::{Footprint, RowSource};
+use rls_meaning::rls_guard::rls_catalog::Catalog;
+use rls_meaning::rls_guard::rls_source::Footprint;
 use rls_statement::Statement;
 use rls_value::{Items, RowId};
 use std::alloc::{AllocError, Global};
 
 /// What the statement, which comes to this effect and reads these objects, did with each row: those that it scanned, in their order,
-/// then the new ones, then those that subqueries could see. The source is only read.
+/// then the new ones, then those that subqueries could see.
 #[tactic(auto, using(crate::proofs::OutcomeLemmas::nothing_decided, crate::proofs::OutcomeLemmas::some_decided))]
-pub fn outcomes<'c, S: RowSource<'c>>(
+pub fn outcomes(
     alloc: Global,
-    source: &mut S,
+    catalog: &Catalog,
     ctx: &Ctx,
     statement: &Statement,
     effect: &Effect,
     read: &Footprint,
 ) -> Result<Items<RowOutcome>, AllocError>
-    requires { effect.now ≡ effect_of (S.state source.old) ctx.now statement.now }
-    ensures rows { IfOk result (λ rows. rows ≡ spec.outcomes_in (S.state source.old) ctx.now statement.now read.now) }
-    ensures state { S.state source.new ≡ S.state source.old }
+    requires { effect.now ≡ effect_of catalog.now ctx.now statement.now }
+    ensures { IfOk result (λ rows. rows ≡ spec.outcomes_in catalog.now ctx.now statement.now read.now) }
 {
     let decisions = decisions_of(effect);
     match first_id(decisions) {
         Some(id) => outcomes_decided(
             alloc,
-            source,
+            catalog,
             ctx,
             statement,
             are_read(decisions),
@@ -71,9 +71,9 @@ fn is_done(effect: &Effect) -> bool
 }
 
 /// Those of a statement that decided on this row.
-fn outcomes_decided<'c, S: RowSource<'c>>(
+fn outcomes_decided(
     alloc: Global,
-    source: &mut S,
+    catalog: &Catalog,
     ctx: &Ctx,
     statement: &Statement,
     reads: bool,
@@ -81,21 +81,20 @@ fn outcomes_decided<'c, S: RowSource<'c>>(
     read: &Footprint,
     id: RowId,
 ) -> Result<Items<RowOutcome>, AllocError>
-    requires decides { Decides (S.state source.old) ctx.now statement.now (on_row id) }
-    requires reads { spec_are_read (spec_decisions_of (effect_of (S.state source.old) ctx.now statement.now)) ≡ reads }
-    ensures rows { IfOk result (λ rows. rows ≡ told_of (S.state source.old) ctx.now statement.now done read.now) }
-    ensures state { S.state source.new ≡ S.state source.old }
+    requires decides { Decides catalog.now ctx.now statement.now (on_row id) }
+    requires reads { spec_are_read (spec_decisions_of (effect_of catalog.now ctx.now statement.now)) ≡ reads }
+    ensures { IfOk result (λ rows. rows ≡ told_of catalog.now ctx.now statement.now done read.now) }
 {
     match statement {
-        Statement::Select(select) => select_outcomes(alloc, source, ctx, select, done, read, id),
+        Statement::Select(select) => select_outcomes(alloc, catalog, ctx, select, done, read, id),
         Statement::Insert(insert) => {
-            insert_outcomes(alloc, source, ctx, insert, reads, done, read, id)
+            insert_outcomes(alloc, catalog, ctx, insert, reads, done, read, id)
         }
         Statement::Update(update) => {
-            update_outcomes(alloc, source, ctx, update, reads, done, read, id)
+            update_outcomes(alloc, catalog, ctx, update, reads, done, read, id)
         }
         Statement::Delete(delete) => {
-            delete_outcomes(alloc, source, ctx, delete, reads, done, read, id)
+            delete_outcomes(alloc, catalog, ctx, delete, reads, done, read, id)
         }
         Statement::CreateRole(_)
         | Statement::AlterRole(_)

@@ -24,37 +24,36 @@ use rls_expr::{Expr, FromTable, TableDef};
 use rls_judging::CheckContext;
 use rls_meaning::rls_access::Ctx;
 use rls_meaning::rls_expansion::PolicyExpansion;
-use rls_meaning::rls_guard::rls_catalog::BorrowedRow;
-use rls_meaning::rls_guard::rls_source::{Footprint, RowSource};
+use rls_meaning::rls_guard::rls_catalog::{BorrowedRow, Catalog};
+use rls_meaning::rls_guard::rls_source::Footprint;
 use rls_statement::{Delete, Select, Selected};
 use rls_value::{Items, Kind, Name, RowId};
 use std::alloc::{AllocError, Global};
 
 /// What a SELECT did, which decided on this row.
 #[tactic(auto, using(crate::proofs::OutcomeLemmas::select_decides_none))]
-pub fn select_outcomes<'c, S: RowSource<'c>>(
+pub fn select_outcomes(
     alloc: Global,
-    source: &mut S,
+    catalog: &Catalog,
     ctx: &Ctx,
     select: &Select,
     done: bool,
     read: &Footprint,
     id: RowId,
 ) -> Result<Items<RowOutcome>, AllocError>
-    requires decides { Decides (S.state source.old) ctx.now (asked.Select select.now) (on_row id) }
-    ensures rows { IfOk result (λ rows. rows ≡ finding.told_of (S.state source.old) ctx.now (asked.Select select.now) done read.now) }
-    ensures state { S.state source.new ≡ S.state source.old }
+    requires decides { Decides catalog.now ctx.now (asked.Select select.now) (on_row id) }
+    ensures { IfOk result (λ rows. rows ≡ finding.told_of catalog.now ctx.now (asked.Select select.now) done read.now) }
 {
-    match source.table(alloc, &select.table)? {
-        Some(table) => selected_outcomes(alloc, source, ctx, select, table, done, read, id),
+    match catalog.table(&select.table) {
+        Some(table) => selected_outcomes(alloc, catalog, ctx, select, table, done, read, id),
         None => Ok(Items::new(alloc)),
     }
 }
 
 /// The same of a table that is there.
-fn selected_outcomes<'c, S: RowSource<'c>>(
+fn selected_outcomes(
     alloc: Global,
-    source: &mut S,
+    catalog: &Catalog,
     ctx: &Ctx,
     select: &Select,
     table: &TableDef,
@@ -62,17 +61,16 @@ fn selected_outcomes<'c, S: RowSource<'c>>(
     read: &Footprint,
     id: RowId,
 ) -> Result<Items<RowOutcome>, AllocError>
-    requires there { table_of (S.state source.old) select.now.table ≡ Some table.now }
-    requires decides { Decides (S.state source.old) ctx.now (asked.Select select.now) (on_row id) }
-    ensures rows { IfOk result (λ rows. rows ≡ finding.told_of (S.state source.old) ctx.now (asked.Select select.now) done read.now) }
-    ensures state { S.state source.new ≡ S.state source.old }
+    requires there { table_of catalog.now select.now.table ≡ Some table.now }
+    requires decides { Decides catalog.now ctx.now (asked.Select select.now) (on_row id) }
+    ensures { IfOk result (λ rows. rows ≡ finding.told_of catalog.now ctx.now (asked.Select select.now) done read.now) }
 {
     outcomes_found();
     let scope = FromTable {
         name: qualifier_of(select),
         table,
     };
-    let condition = condition_in(alloc, source, scope, &select.condition)?;
+    let condition = condition_in(alloc, catalog, scope, &select.condition)?;
     let from = FromTable {
         name: &select.table,
         table,
@@ -80,7 +78,7 @@ fn selected_outcomes<'c, S: RowSource<'c>>(
     let kind = Kind::Select;
     let met = listed_as(&select.items);
     let rows = scan_outcomes(
-        alloc, source, &ctx.role, from, kind, false, &condition, met, read,
+        alloc, catalog, &ctx.role, from, kind, false, &condition, met, read,
     );
     drop(condition);
     rows
@@ -102,9 +100,9 @@ fn listed_as(items: &Selected) -> Met
 
 /// What a DELETE did, which decided on this row.
 #[tactic(auto, using(crate::proofs::OutcomeLemmas::delete_decides_none))]
-pub fn delete_outcomes<'c, S: RowSource<'c>>(
+pub fn delete_outcomes(
     alloc: Global,
-    source: &mut S,
+    catalog: &Catalog,
     ctx: &Ctx,
     delete: &Delete,
     reads: bool,
@@ -112,21 +110,20 @@ pub fn delete_outcomes<'c, S: RowSource<'c>>(
     read: &Footprint,
     id: RowId,
 ) -> Result<Items<RowOutcome>, AllocError>
-    requires decides { Decides (S.state source.old) ctx.now (asked.Delete delete.now) (on_row id) }
-    requires reads { are_read (decisions_of (effect_of (S.state source.old) ctx.now (asked.Delete delete.now))) ≡ reads }
-    ensures rows { IfOk result (λ rows. rows ≡ finding.told_of (S.state source.old) ctx.now (asked.Delete delete.now) done read.now) }
-    ensures state { S.state source.new ≡ S.state source.old }
+    requires decides { Decides catalog.now ctx.now (asked.Delete delete.now) (on_row id) }
+    requires reads { are_read (decisions_of (effect_of catalog.now ctx.now (asked.Delete delete.now))) ≡ reads }
+    ensures { IfOk result (λ rows. rows ≡ finding.told_of catalog.now ctx.now (asked.Delete delete.now) done read.now) }
 {
-    match source.table(alloc, &delete.table)? {
-        Some(table) => deleted_outcomes(alloc, source, ctx, delete, table, reads, done, read, id),
+    match catalog.table(&delete.table) {
+        Some(table) => deleted_outcomes(alloc, catalog, ctx, delete, table, reads, done, read, id),
         None => Ok(Items::new(alloc)),
     }
 }
 
 /// The same of a table that is there.
-fn deleted_outcomes<'c, S: RowSource<'c>>(
+fn deleted_outcomes(
     alloc: Global,
-    source: &mut S,
+    catalog: &Catalog,
     ctx: &Ctx,
     delete: &Delete,
     table: &TableDef,
@@ -135,33 +132,32 @@ fn deleted_outcomes<'c, S: RowSource<'c>>(
     read: &Footprint,
     id: RowId,
 ) -> Result<Items<RowOutcome>, AllocError>
-    requires there { table_of (S.state source.old) delete.now.table ≡ Some table.now }
-    requires decides { Decides (S.state source.old) ctx.now (asked.Delete delete.now) (on_row id) }
-    requires reads { are_read (decisions_of (effect_of (S.state source.old) ctx.now (asked.Delete delete.now))) ≡ reads }
-    ensures rows { IfOk result (λ rows. rows ≡ finding.told_of (S.state source.old) ctx.now (asked.Delete delete.now) done read.now) }
-    ensures state { S.state source.new ≡ S.state source.old }
+    requires there { table_of catalog.now delete.now.table ≡ Some table.now }
+    requires decides { Decides catalog.now ctx.now (asked.Delete delete.now) (on_row id) }
+    requires reads { are_read (decisions_of (effect_of catalog.now ctx.now (asked.Delete delete.now))) ≡ reads }
+    ensures { IfOk result (λ rows. rows ≡ finding.told_of catalog.now ctx.now (asked.Delete delete.now) done read.now) }
 {
     outcomes_found();
     let from = FromTable {
         name: &delete.table,
         table,
     };
-    let condition = condition_in(alloc, source, from, &delete.condition)?;
+    let condition = condition_in(alloc, catalog, from, &delete.condition)?;
     let kind = Kind::Delete;
     let word = RowWord::Deleted;
     let returning = delete.returning.is_some();
     let met = Met { word, returning };
     let rows = scan_outcomes(
-        alloc, source, &ctx.role, from, kind, reads, &condition, met, read,
+        alloc, catalog, &ctx.role, from, kind, reads, &condition, met, read,
     );
     drop(condition);
     rows
 }
 
 /// Of the rows that a command scans; those that are met so.
-fn scan_outcomes<'c, 'x, S: RowSource<'c>>(
+fn scan_outcomes<'x>(
     alloc: Global,
-    source: &mut S,
+    catalog: &Catalog,
     role: &Name,
     from: FromTable<'x>,
     kind: Kind,
@@ -170,8 +166,7 @@ fn scan_outcomes<'c, 'x, S: RowSource<'c>>(
     met: Met,
     read: &Footprint,
 ) -> Result<Items<RowOutcome>, AllocError>
-    ensures rows { IfOk result (λ rows. rows ≡ finding.scan_told (S.state source.old) role.now from.entry.name.now condition.now met read.now (tables_if condition.now) (rows_at_key (S.state source.old) from.entry.name.now (pinned_key role.now from.entry.table.now.key condition.now)) (expansion_found (S.state source.old) role.now (in_scope from.entry) kind reads (tables_if condition.now))) }
-    ensures state { S.state source.new ≡ S.state source.old }
+    ensures { IfOk result (λ rows. rows ≡ finding.scan_told catalog.now role.now from.entry.name.now condition.now met read.now (tables_if condition.now) (rows_at_key catalog.now from.entry.name.now (pinned_key role.now from.entry.table.now.key condition.now)) (expansion_found catalog.now role.now (in_scope from.entry) kind reads (tables_if condition.now))) }
 {
     let queries = tables_of(alloc, condition)?;
     let looks = Looks {
@@ -179,16 +174,16 @@ fn scan_outcomes<'c, 'x, S: RowSource<'c>>(
         read,
     };
     let rows = outcomes_looking(
-        alloc, source, role, from, kind, reads, condition, met, looks,
+        alloc, catalog, role, from, kind, reads, condition, met, looks,
     );
     drop(queries);
     rows
 }
 
 /// The same, where subqueries look at these tables.
-fn outcomes_looking<'c, 'x, S: RowSource<'c>>(
+fn outcomes_looking<'x>(
     alloc: Global,
-    source: &mut S,
+    catalog: &Catalog,
     role: &Name,
     from: FromTable<'x>,
     kind: Kind,
@@ -197,19 +192,18 @@ fn outcomes_looking<'c, 'x, S: RowSource<'c>>(
     met: Met,
     looks: Looks<'x>,
 ) -> Result<Items<RowOutcome>, AllocError>
-    ensures rows { IfOk result (λ rows. rows ≡ finding.scan_told (S.state source.old) role.now from.entry.name.now condition.now met looks.entry.read.now looks.entry.queries.now (rows_at_key (S.state source.old) from.entry.name.now (pinned_key role.now from.entry.table.now.key condition.now)) (expansion_found (S.state source.old) role.now (in_scope from.entry) kind reads looks.entry.queries.now)) }
-    ensures state { S.state source.new ≡ S.state source.old }
+    ensures { IfOk result (λ rows. rows ≡ finding.scan_told catalog.now role.now from.entry.name.now condition.now met looks.entry.read.now looks.entry.queries.now (rows_at_key catalog.now from.entry.name.now (pinned_key role.now from.entry.table.now.key condition.now)) (expansion_found catalog.now role.now (in_scope from.entry) kind reads looks.entry.queries.now)) }
 {
-    let found = expansion_if(alloc, source, role, from, kind, reads, looks.queries)?;
-    let rows = outcomes_if(alloc, source, role, from, condition, met, looks, &found);
+    let found = expansion_if(alloc, catalog, role, from, kind, reads, looks.queries)?;
+    let rows = outcomes_if(alloc, catalog, role, from, condition, met, looks, &found);
     drop(found);
     rows
 }
 
 /// The same under the policy expansion, if there is one.
-fn outcomes_if<'c, 'x, S: RowSource<'c>>(
+fn outcomes_if<'c, 'x>(
     alloc: Global,
-    source: &mut S,
+    catalog: &'c Catalog,
     role: &Name,
     from: FromTable<'x>,
     condition: &Option<Expr>,
@@ -217,20 +211,19 @@ fn outcomes_if<'c, 'x, S: RowSource<'c>>(
     looks: Looks<'x>,
     found: &Option<PolicyExpansion<'c>>,
 ) -> Result<Items<RowOutcome>, AllocError>
-    ensures rows { IfOk result (λ rows. rows ≡ finding.scan_told (S.state source.old) role.now from.entry.name.now condition.now met looks.entry.read.now looks.entry.queries.now (rows_at_key (S.state source.old) from.entry.name.now (pinned_key role.now from.entry.table.now.key condition.now)) found.now) }
-    ensures state { S.state source.new ≡ S.state source.old }
+    ensures { IfOk result (λ rows. rows ≡ finding.scan_told catalog.now role.now from.entry.name.now condition.now met looks.entry.read.now looks.entry.queries.now (rows_at_key catalog.now from.entry.name.now (pinned_key role.now from.entry.table.now.key condition.now)) found.now) }
 {
     match found {
         Some(expansion) => {
-            outcomes_under(alloc, source, role, from, condition, met, looks, expansion)
+            outcomes_under(alloc, catalog, role, from, condition, met, looks, expansion)
         }
         None => Ok(Items::new(alloc)),
     }
 }
 
-fn outcomes_under<'c, 'x, S: RowSource<'c>>(
+fn outcomes_under<'c, 'x>(
     alloc: Global,
-    source: &mut S,
+    catalog: &'c Catalog,
     role: &Name,
     from: FromTable<'x>,
     condition: &Option<Expr>,
@@ -238,13 +231,12 @@ fn outcomes_under<'c, 'x, S: RowSource<'c>>(
     looks: Looks<'x>,
     expansion: &PolicyExpansion<'c>,
 ) -> Result<Items<RowOutcome>, AllocError>
-    ensures rows { IfOk result (λ rows. rows ≡ finding.scan_told (S.state source.old) role.now from.entry.name.now condition.now met looks.entry.read.now looks.entry.queries.now (rows_at_key (S.state source.old) from.entry.name.now (pinned_key role.now from.entry.table.now.key condition.now)) (Some expansion.now)) }
-    ensures state { S.state source.new ≡ S.state source.old }
+    ensures { IfOk result (λ rows. rows ≡ finding.scan_told catalog.now role.now from.entry.name.now condition.now met looks.entry.read.now looks.entry.queries.now (rows_at_key catalog.now from.entry.name.now (pinned_key role.now from.entry.table.now.key condition.now)) (Some expansion.now)) }
 {
-    let rows = rows_scanned(alloc, source, role, from, condition)?;
+    let rows = rows_scanned(alloc, catalog, role, from, condition)?;
     let outcomes = scanned_outcomes(
         alloc,
-        &*source,
+        catalog,
         old_rows(expansion, role),
         from.name,
         condition,
@@ -252,25 +244,25 @@ fn outcomes_under<'c, 'x, S: RowSource<'c>>(
         rows.as_slice(),
     );
     drop(rows);
-    with_seen(alloc, source, role, expansion, looks, outcomes?)
+    with_seen(alloc, catalog, role, expansion, looks, outcomes?)
 }
 
 /// Of the rows that are scanned.
-fn scanned_outcomes<'a, 'c, S: RowSource<'c>>(
+fn scanned_outcomes<'a, 'c>(
     alloc: Global,
-    source: &S,
+    catalog: &'c Catalog,
     context: CheckContext<'a, 'c>,
     table: &Name,
     condition: &Option<Expr>,
     met: Met,
     rows: &[BorrowedRow<'c>],
 ) -> Result<Items<RowOutcome>, AllocError>
-    ensures { IfOk result (λ outcomes. outcomes ≡ finding.scanned_found (S.state source.now) (shows context.entry.relations.now context.entry.role.now) context.entry.role.now context.entry.row_checks.now table.now condition.now (spec.met_as table.now met) rows.now) }
+    ensures { IfOk result (λ outcomes. outcomes ≡ finding.scanned_found catalog.now (shows context.entry.relations.now context.entry.role.now) context.entry.role.now context.entry.row_checks.now table.now condition.now (spec.met_as table.now met) rows.now) }
 {
     let mut outcomes = Vec::new(alloc);
     put_scanned(
         alloc,
-        source,
+        catalog,
         context,
         table,
         condition,

@@ -19,57 +19,55 @@ use crate::resolving::{condition_in, tables_of};
 use rls_expr::{Expr, FromTable, TableDef};
 use rls_meaning::rls_access::Ctx;
 use rls_meaning::rls_expansion::PolicyExpansion;
-use rls_meaning::rls_guard::rls_source::RowSource;
+use rls_meaning::rls_guard::rls_catalog::Catalog;
 use rls_statement::{Delete, Select};
 use rls_value::{Items, Kind, Name};
 use std::alloc::{AllocError, Global};
 
 /// Explains the decisions of a SELECT that are wanted.
 #[tactic(auto, using(crate::proofs::DecidedLemmas::select_without_table))]
-pub fn explain_select<'c, S: RowSource<'c>>(
+pub fn explain_select(
     alloc: Global,
-    source: &mut S,
+    catalog: &Catalog,
     ctx: &Ctx,
     select: &Select,
     wanted: Wanted,
 ) -> Result<Items<Explained>, AllocError>
-    requires { spec.is_decided wanted (decisions_of (effect_of (S.state source.old) ctx.now (asked.Select select.now))) ≡ true }
-    ensures row { IfOk result (λ explained. explained ≡ explained_in (S.state source.old) ctx.now (asked.Select select.now) (Some wanted)) }
-    ensures state { S.state source.new ≡ S.state source.old }
+    requires { spec.is_decided wanted (decisions_of (effect_of catalog.now ctx.now (asked.Select select.now))) ≡ true }
+    ensures { IfOk result (λ explained. explained ≡ explained_in catalog.now ctx.now (asked.Select select.now) (Some wanted)) }
 {
-    match source.table(alloc, &select.table)? {
-        Some(table) => explain_selected(alloc, source, ctx, select, table, wanted),
+    match catalog.table(&select.table) {
+        Some(table) => explain_selected(alloc, catalog, ctx, select, table, wanted),
         None => Ok(Items::new(alloc)),
     }
 }
 
 /// The same of a table that is there.
-fn explain_selected<'c, S: RowSource<'c>>(
+fn explain_selected(
     alloc: Global,
-    source: &mut S,
+    catalog: &Catalog,
     ctx: &Ctx,
     select: &Select,
     table: &TableDef,
     wanted: Wanted,
 ) -> Result<Items<Explained>, AllocError>
-    requires there { table_of (S.state source.old) select.now.table ≡ Some table.now }
-    requires decided { spec.is_decided wanted (decisions_of (effect_of (S.state source.old) ctx.now (asked.Select select.now))) ≡ true }
-    ensures row { IfOk result (λ explained. explained ≡ explained_in (S.state source.old) ctx.now (asked.Select select.now) (Some wanted)) }
-    ensures state { S.state source.new ≡ S.state source.old }
+    requires there { table_of catalog.now select.now.table ≡ Some table.now }
+    requires decided { spec.is_decided wanted (decisions_of (effect_of catalog.now ctx.now (asked.Select select.now))) ≡ true }
+    ensures { IfOk result (λ explained. explained ≡ explained_in catalog.now ctx.now (asked.Select select.now) (Some wanted)) }
 {
     decisions_found();
     let scope = FromTable {
         name: qualifier_of(select),
         table,
     };
-    let condition = condition_in(alloc, source, scope, &select.condition)?;
+    let condition = condition_in(alloc, catalog, scope, &select.condition)?;
     let from = FromTable {
         name: &select.table,
         table,
     };
     let kind = Kind::Select;
     let explained = explain_scanned(
-        alloc, source, &ctx.role, from, kind, false, &condition, wanted,
+        alloc, catalog, &ctx.role, from, kind, false, &condition, wanted,
     );
     drop(condition);
     explained
@@ -87,59 +85,57 @@ pub fn qualifier_of(select: &Select) -> &Name
 
 /// Explains the decisions of a DELETE that are wanted.
 #[tactic(auto, using(crate::proofs::DecidedLemmas::delete_without_table))]
-pub fn explain_delete<'c, S: RowSource<'c>>(
+pub fn explain_delete(
     alloc: Global,
-    source: &mut S,
+    catalog: &Catalog,
     ctx: &Ctx,
     delete: &Delete,
     reads: bool,
     wanted: Wanted,
 ) -> Result<Items<Explained>, AllocError>
-    requires decided { spec.is_decided wanted (decisions_of (effect_of (S.state source.old) ctx.now (asked.Delete delete.now))) ≡ true }
-    requires reads { spec.are_read (decisions_of (effect_of (S.state source.old) ctx.now (asked.Delete delete.now))) ≡ reads }
-    ensures row { IfOk result (λ explained. explained ≡ explained_in (S.state source.old) ctx.now (asked.Delete delete.now) (Some wanted)) }
-    ensures state { S.state source.new ≡ S.state source.old }
+    requires decided { spec.is_decided wanted (decisions_of (effect_of catalog.now ctx.now (asked.Delete delete.now))) ≡ true }
+    requires reads { spec.are_read (decisions_of (effect_of catalog.now ctx.now (asked.Delete delete.now))) ≡ reads }
+    ensures { IfOk result (λ explained. explained ≡ explained_in catalog.now ctx.now (asked.Delete delete.now) (Some wanted)) }
 {
-    match source.table(alloc, &delete.table)? {
-        Some(table) => explain_deleted(alloc, source, ctx, delete, table, reads, wanted),
+    match catalog.table(&delete.table) {
+        Some(table) => explain_deleted(alloc, catalog, ctx, delete, table, reads, wanted),
         None => Ok(Items::new(alloc)),
     }
 }
 
 /// The same of a table that is there.
-fn explain_deleted<'c, S: RowSource<'c>>(
+fn explain_deleted(
     alloc: Global,
-    source: &mut S,
+    catalog: &Catalog,
     ctx: &Ctx,
     delete: &Delete,
     table: &TableDef,
     reads: bool,
     wanted: Wanted,
 ) -> Result<Items<Explained>, AllocError>
-    requires there { table_of (S.state source.old) delete.now.table ≡ Some table.now }
-    requires decided { spec.is_decided wanted (decisions_of (effect_of (S.state source.old) ctx.now (asked.Delete delete.now))) ≡ true }
-    requires reads { spec.are_read (decisions_of (effect_of (S.state source.old) ctx.now (asked.Delete delete.now))) ≡ reads }
-    ensures row { IfOk result (λ explained. explained ≡ explained_in (S.state source.old) ctx.now (asked.Delete delete.now) (Some wanted)) }
-    ensures state { S.state source.new ≡ S.state source.old }
+    requires there { table_of catalog.now delete.now.table ≡ Some table.now }
+    requires decided { spec.is_decided wanted (decisions_of (effect_of catalog.now ctx.now (asked.Delete delete.now))) ≡ true }
+    requires reads { spec.are_read (decisions_of (effect_of catalog.now ctx.now (asked.Delete delete.now))) ≡ reads }
+    ensures { IfOk result (λ explained. explained ≡ explained_in catalog.now ctx.now (asked.Delete delete.now) (Some wanted)) }
 {
     decisions_found();
     let from = FromTable {
         name: &delete.table,
         table,
     };
-    let condition = condition_in(alloc, source, from, &delete.condition)?;
+    let condition = condition_in(alloc, catalog, from, &delete.condition)?;
     let kind = Kind::Delete;
     let explained = explain_scanned(
-        alloc, source, &ctx.role, from, kind, reads, &condition, wanted,
+        alloc, catalog, &ctx.role, from, kind, reads, &condition, wanted,
     );
     drop(condition);
     explained
 }
 
 /// Explains the decisions on the rows that a command scans.
-fn explain_scanned<'c, 'x, S: RowSource<'c>>(
+fn explain_scanned<'x>(
     alloc: Global,
-    source: &mut S,
+    catalog: &Catalog,
     role: &Name,
     from: FromTable<'x>,
     kind: Kind,
@@ -147,54 +143,51 @@ fn explain_scanned<'c, 'x, S: RowSource<'c>>(
     condition: &Option<Expr>,
     wanted: Wanted,
 ) -> Result<Items<Explained>, AllocError>
-    ensures row { IfOk result (λ explained. explained ≡ spec.scan_found (S.state source.old) role.now (in_scope from.entry) wanted (rows_at_key (S.state source.old) from.entry.name.now (pinned_key role.now from.entry.table.now.key condition.now)) (spec.expansion_found (S.state source.old) role.now (in_scope from.entry) kind reads (tables_if condition.now))) }
-    ensures state { S.state source.new ≡ S.state source.old }
+    ensures { IfOk result (λ explained. explained ≡ spec.scan_found catalog.now role.now (in_scope from.entry) wanted (rows_at_key catalog.now from.entry.name.now (pinned_key role.now from.entry.table.now.key condition.now)) (spec.expansion_found catalog.now role.now (in_scope from.entry) kind reads (tables_if condition.now))) }
 {
     let queries = tables_of(alloc, condition)?;
-    let found = expansion_if(alloc, source, role, from, kind, reads, queries.as_slice());
+    let found = expansion_if(alloc, catalog, role, from, kind, reads, queries.as_slice());
     drop(queries);
     let found = found?;
-    let explained = explain_if(alloc, source, role, from, condition, wanted, &found);
+    let explained = explain_if(alloc, catalog, role, from, condition, wanted, &found);
     drop(found);
     explained
 }
 
 /// The same under the policy expansion, if there is one.
-fn explain_if<'c, 'x, S: RowSource<'c>>(
+fn explain_if<'c, 'x>(
     alloc: Global,
-    source: &mut S,
+    catalog: &'c Catalog,
     role: &Name,
     from: FromTable<'x>,
     condition: &Option<Expr>,
     wanted: Wanted,
     found: &Option<PolicyExpansion<'c>>,
 ) -> Result<Items<Explained>, AllocError>
-    ensures row { IfOk result (λ explained. explained ≡ spec.scan_found (S.state source.old) role.now (in_scope from.entry) wanted (rows_at_key (S.state source.old) from.entry.name.now (pinned_key role.now from.entry.table.now.key condition.now)) found.now) }
-    ensures state { S.state source.new ≡ S.state source.old }
+    ensures { IfOk result (λ explained. explained ≡ spec.scan_found catalog.now role.now (in_scope from.entry) wanted (rows_at_key catalog.now from.entry.name.now (pinned_key role.now from.entry.table.now.key condition.now)) found.now) }
 {
     match found {
-        Some(expansion) => explain_under(alloc, source, role, from, condition, wanted, expansion),
+        Some(expansion) => explain_under(alloc, catalog, role, from, condition, wanted, expansion),
         None => Ok(Items::new(alloc)),
     }
 }
 
-fn explain_under<'c, 'x, S: RowSource<'c>>(
+fn explain_under<'c, 'x>(
     alloc: Global,
-    source: &mut S,
+    catalog: &'c Catalog,
     role: &Name,
     from: FromTable<'x>,
     condition: &Option<Expr>,
     wanted: Wanted,
     expansion: &PolicyExpansion<'c>,
 ) -> Result<Items<Explained>, AllocError>
-    ensures row { IfOk result (λ explained. explained ≡ spec.scan_found (S.state source.old) role.now (in_scope from.entry) wanted (rows_at_key (S.state source.old) from.entry.name.now (pinned_key role.now from.entry.table.now.key condition.now)) (Some expansion.now)) }
-    ensures state { S.state source.new ≡ S.state source.old }
+    ensures { IfOk result (λ explained. explained ≡ spec.scan_found catalog.now role.now (in_scope from.entry) wanted (rows_at_key catalog.now from.entry.name.now (pinned_key role.now from.entry.table.now.key condition.now)) (Some expansion.now)) }
 {
-    let rows = rows_scanned(alloc, source, role, from, condition)?;
+    let rows = rows_scanned(alloc, catalog, role, from, condition)?;
     let mut explained = Vec::new(alloc);
     put_rows(
         alloc,
-        &*source,
+        catalog,
         old_rows(expansion, role),
         wanted,
         rows.as_slice(),
@@ -202,5 +195,5 @@ fn explain_under<'c, 'x, S: RowSource<'c>>(
     )?;
     drop(rows);
     let relations = expansion.relations.as_slice();
-    detailed_if(alloc, source, wanted.long, role, from, relations, explained)
+    detailed_if(alloc, catalog, wanted.long, role, from, relations, explained)
 }

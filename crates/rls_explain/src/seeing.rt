@@ -15,41 +15,40 @@ use crate::judging::put_row;
 use rls_expr::FromTable;
 use rls_judging::CheckContext;
 use rls_meaning::rls_expansion::PolicyExpansion;
-use rls_meaning::rls_guard::rls_catalog::BorrowedRow;
+use rls_meaning::rls_guard::rls_catalog::{BorrowedRow, Catalog};
 use rls_meaning::rls_guard::rls_evaluation::allows;
-use rls_meaning::rls_guard::rls_source::RowSource;
 use rls_value::{Items, Kind, Name, Row};
 use std::alloc::{AllocError, Global};
 
 /// The rows of the table or, with a key, those that have it.
-pub fn rows_at<'c, S: RowSource<'c>>(
+pub fn rows_at<'c>(
     alloc: Global,
-    source: &S,
+    catalog: &'c Catalog,
     table: &Name,
     key: &Option<Row>,
 ) -> Result<Items<BorrowedRow<'c>>, AllocError>
-    ensures { IfOk result (λ rows. rows ≡ rows_at_key (S.state source.now) table.now key.now) }
+    ensures { IfOk result (λ rows. rows ≡ rows_at_key catalog.now table.now key.now) }
 {
     match key {
-        None => source.look(alloc, table),
-        Some(key) => rows_with(alloc, source, table, key),
+        None => catalog.rows(alloc, table),
+        Some(key) => rows_with(alloc, catalog, table, key),
     }
 }
 
 /// Nobody's key has a null in it.
 #[tactic(auto, using(crate::proofs::DetailLemmas::rows_keyed))]
-fn rows_with<'c, S: RowSource<'c>>(
+fn rows_with<'c>(
     alloc: Global,
-    source: &S,
+    catalog: &'c Catalog,
     table: &Name,
     key: &Row,
 ) -> Result<Items<BorrowedRow<'c>>, AllocError>
-    ensures { IfOk result (λ rows. rows ≡ rows_at_key (S.state source.now) table.now (Some key.now)) }
+    ensures { IfOk result (λ rows. rows ≡ rows_at_key catalog.now table.now (Some key.now)) }
 {
     if has_null(key) {
         Ok(Items::new(alloc))
     } else {
-        source.look_by_key(alloc, table, key)
+        catalog.rows_with_key(alloc, table, key)
     }
 }
 
@@ -60,67 +59,65 @@ fn has_null(key: &Row) -> bool
 }
 
 /// Those of the rows of the table that the role is shown.
-pub fn rows_seen<'r, 'c, S: RowSource<'c>>(
+pub fn rows_seen<'r, 'c>(
     alloc: Global,
-    source: &mut S,
+    catalog: &'c Catalog,
     role: &Name,
     name: &Name,
     rows: &'r [BorrowedRow<'c>],
 ) -> Result<Vec<&'r BorrowedRow<'c>>, AllocError>
-    ensures rows { IfOk result (λ seen. rows_borrowed seen ≡ spec.rows_shown_found (S.state source.old) role.now name.now (table_of (S.state source.old) name.now) rows.now) }
-    ensures state { S.state source.new ≡ S.state source.old }
+    ensures { IfOk result (λ seen. rows_borrowed seen ≡ spec.rows_shown_found catalog.now role.now name.now (table_of catalog.now name.now) rows.now) }
 {
-    match source.table(alloc, name)? {
-        Some(table) => rows_shown(alloc, source, role, FromTable { name, table }, rows),
+    match catalog.table(name) {
+        Some(table) => rows_shown(alloc, catalog, role, FromTable { name, table }, rows),
         None => Ok(Vec::new(alloc)),
     }
 }
 
 /// The same of a table that is there.
-fn rows_shown<'r, 'c, 'x, S: RowSource<'c>>(
+fn rows_shown<'r, 'c, 'x>(
     alloc: Global,
-    source: &mut S,
+    catalog: &'c Catalog,
     role: &Name,
     from: FromTable<'x>,
     rows: &'r [BorrowedRow<'c>],
 ) -> Result<Vec<&'r BorrowedRow<'c>>, AllocError>
-    ensures rows { IfOk result (λ seen. rows_borrowed seen ≡ spec.shown_found (S.state source.old) role.now (in_scope from.entry) rows.now) }
-    ensures state { S.state source.new ≡ S.state source.old }
+    ensures { IfOk result (λ seen. rows_borrowed seen ≡ spec.shown_found catalog.now role.now (in_scope from.entry) rows.now) }
 {
     let kind = Kind::Select;
-    let found = expansion_if(alloc, source, role, from, kind, false, &[])?;
-    let seen = rows_under(alloc, &*source, role, &found, rows);
+    let found = expansion_if(alloc, catalog, role, from, kind, false, &[])?;
+    let seen = rows_under(alloc, catalog, role, &found, rows);
     drop(found);
     seen
 }
 
 /// The same under the policy expansion, if there is one.
-fn rows_under<'r, 'c, S: RowSource<'c>>(
+fn rows_under<'r, 'c>(
     alloc: Global,
-    source: &S,
+    catalog: &'c Catalog,
     role: &Name,
     found: &Option<PolicyExpansion<'c>>,
     rows: &'r [BorrowedRow<'c>],
 ) -> Result<Vec<&'r BorrowedRow<'c>>, AllocError>
-    ensures { IfOk result (λ seen. rows_borrowed seen ≡ spec.shown_under (S.state source.now) role.now rows.now found.now) }
+    ensures { IfOk result (λ seen. rows_borrowed seen ≡ spec.shown_under catalog.now role.now rows.now found.now) }
 {
     match found {
-        Some(expansion) => rows_allowed(alloc, source, old_rows(expansion, role), rows),
+        Some(expansion) => rows_allowed(alloc, catalog, old_rows(expansion, role), rows),
         None => Ok(Vec::new(alloc)),
     }
 }
 
-fn rows_allowed<'a, 'r, 'c, S: RowSource<'c>>(
+fn rows_allowed<'a, 'r, 'c>(
     alloc: Global,
-    source: &S,
+    catalog: &'c Catalog,
     context: CheckContext<'a, 'c>,
     rows: &'r [BorrowedRow<'c>],
 ) -> Result<Vec<&'r BorrowedRow<'c>>, AllocError>
-    ensures { IfOk result (λ seen. rows_borrowed seen ≡ filter (spec.is_allowed (S.state source.now) (shows context.entry.relations.now context.entry.role.now) context.entry.role.now context.entry.row_checks.now) rows.now) }
+    ensures { IfOk result (λ seen. rows_borrowed seen ≡ filter (spec.is_allowed catalog.now (shows context.entry.relations.now context.entry.role.now) context.entry.role.now context.entry.row_checks.now) rows.now) }
 {
     let mut allowed = Vec::new(alloc);
     for stored in rows {
-        if is_allowed(alloc, source, context, stored)? {
+        if is_allowed(alloc, catalog, context, stored)? {
             allowed.push(stored)?;
         }
     }
@@ -128,18 +125,18 @@ fn rows_allowed<'a, 'r, 'c, S: RowSource<'c>>(
 }
 
 /// Whether each decision allows the row.
-fn is_allowed<'a, 'c, S: RowSource<'c>>(
+fn is_allowed<'a, 'c>(
     alloc: Global,
-    source: &S,
+    catalog: &'c Catalog,
     context: CheckContext<'a, 'c>,
     stored: &BorrowedRow<'c>,
 ) -> Result<bool, AllocError>
-    ensures { IfOk result (λ is. is ≡ spec.is_allowed (S.state source.now) (shows context.entry.relations.now context.entry.role.now) context.entry.role.now context.entry.row_checks.now stored.now) }
+    ensures { IfOk result (λ is. is ≡ spec.is_allowed catalog.now (shows context.entry.relations.now context.entry.role.now) context.entry.role.now context.entry.row_checks.now stored.now) }
 {
     let mut explained = Vec::new(alloc);
     put_row(
         alloc,
-        source,
+        catalog,
         context,
         stored.id(),
         stored.row(),

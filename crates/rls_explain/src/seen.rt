@@ -16,8 +16,8 @@ use crate::outcome::{Fate, RowOutcome, RowWord};
 use rls_expr::{FromTable, SelectedTable};
 use rls_judging::CheckContext;
 use rls_meaning::rls_expansion::PolicyExpansion;
-use rls_meaning::rls_guard::rls_catalog::BorrowedRow;
-use rls_meaning::rls_guard::rls_source::{Footprint, RowSource};
+use rls_meaning::rls_guard::rls_catalog::{BorrowedRow, Catalog};
+use rls_meaning::rls_guard::rls_source::Footprint;
 use rls_value::{Items, Kind, Name, Object, Row};
 use std::alloc::{AllocError, Global};
 use std::collections::BTreeSet;
@@ -30,19 +30,18 @@ pub struct Looks<'x> {
 }
 
 /// The rows, and behind them those that subqueries could see.
-pub fn with_seen<'c, 'x, S: RowSource<'c>>(
+pub fn with_seen<'c, 'x>(
     alloc: Global,
-    source: &mut S,
+    catalog: &'c Catalog,
     role: &Name,
     expansion: &PolicyExpansion<'c>,
     looks: Looks<'x>,
     rows: Items<RowOutcome>,
 ) -> Result<Items<RowOutcome>, AllocError>
-    ensures rows { IfOk result (λ all. all ≡ rows ++ finding.seen_found (S.state source.old) role.now looks.entry.read.now (finding.names_listed expansion.now looks.entry.queries.now)) }
-    ensures state { S.state source.new ≡ S.state source.old }
+    ensures { IfOk result (λ all. all ≡ rows ++ finding.seen_found catalog.now role.now looks.entry.read.now (finding.names_listed expansion.now looks.entry.queries.now)) }
 {
     let mut outcomes = rows.into_vec();
-    match put_seen(alloc, source, role, expansion, looks, &mut outcomes) {
+    match put_seen(alloc, catalog, role, expansion, looks, &mut outcomes) {
         Ok(()) => Ok(Items::from_vec(outcomes)),
         Err(refused) => {
             drop(outcomes);
@@ -52,117 +51,113 @@ pub fn with_seen<'c, 'x, S: RowSource<'c>>(
 }
 
 /// Tells of the rows that subqueries could see, by table and number.
-fn put_seen<'c, 'x, S: RowSource<'c>>(
+fn put_seen<'c, 'x>(
     alloc: Global,
-    source: &mut S,
+    catalog: &'c Catalog,
     role: &Name,
     expansion: &PolicyExpansion<'c>,
     looks: Looks<'x>,
     outcomes: &mut Vec<RowOutcome>,
 ) -> Result<(), AllocError>
-    ensures rows { OnOk result (outcomes.new.items ≡ outcomes.old.items ++ finding.seen_found (S.state source.old) role.now looks.entry.read.now (finding.names_listed expansion.now looks.entry.queries.now)) }
-    ensures state { S.state source.new ≡ S.state source.old }
+    ensures { OnOk result (outcomes.new.items ≡ outcomes.old.items ++ finding.seen_found catalog.now role.now looks.entry.read.now (finding.names_listed expansion.now looks.entry.queries.now)) }
 {
     let names = tables_seen(alloc, expansion, looks)?;
-    let put = put_each(alloc, source, role, looks.read, names.as_slice(), outcomes);
+    let put = put_each(alloc, catalog, role, looks.read, names.as_slice(), outcomes);
     drop(names);
     put
 }
 
 /// Those of the tables.
-fn put_each<'c, S: RowSource<'c>>(
+fn put_each(
     alloc: Global,
-    source: &mut S,
+    catalog: &Catalog,
     role: &Name,
     read: &Footprint,
     names: &[Name],
     outcomes: &mut Vec<RowOutcome>,
 ) -> Result<(), AllocError>
-    ensures rows { OnOk result (outcomes.new.items ≡ outcomes.old.items ++ finding.seen_each (S.state source.old) role.now read.now names.now) }
-    ensures state { S.state source.new ≡ S.state source.old }
+    ensures { OnOk result (outcomes.new.items ≡ outcomes.old.items ++ finding.seen_each catalog.now role.now read.now names.now) }
 {
     for name in names {
-        put_there(alloc, source, role, read, name, outcomes)?;
+        put_there(alloc, catalog, role, read, name, outcomes)?;
     }
     Ok(())
 }
 
 /// Those of a table, if it is there.
-fn put_there<'c, S: RowSource<'c>>(
+fn put_there(
     alloc: Global,
-    source: &mut S,
+    catalog: &Catalog,
     role: &Name,
     read: &Footprint,
     name: &Name,
     outcomes: &mut Vec<RowOutcome>,
 ) -> Result<(), AllocError>
-    ensures rows { OnOk result (outcomes.new.items ≡ outcomes.old.items ++ finding.seen_there (S.state source.old) role.now read.now name.now (table_of (S.state source.old) name.now)) }
-    ensures state { S.state source.new ≡ S.state source.old }
+    ensures { OnOk result (outcomes.new.items ≡ outcomes.old.items ++ finding.seen_there catalog.now role.now read.now name.now (table_of catalog.now name.now)) }
 {
-    match source.table(alloc, name)? {
+    match catalog.table(name) {
         Some(table) => {
             let from = FromTable { name, table };
-            put_of(alloc, source, role, read, from, outcomes)
+            put_of(alloc, catalog, role, read, from, outcomes)
         }
         None => Ok(()),
     }
 }
 
 /// The same by the policies of the table.
-fn put_of<'c, 'x, S: RowSource<'c>>(
+fn put_of<'x>(
     alloc: Global,
-    source: &mut S,
+    catalog: &Catalog,
     role: &Name,
     read: &Footprint,
     from: FromTable<'x>,
     outcomes: &mut Vec<RowOutcome>,
 ) -> Result<(), AllocError>
-    ensures rows { OnOk result (outcomes.new.items ≡ outcomes.old.items ++ finding.seen_under (S.state source.old) role.now read.now from.entry.name.now (rows_of (S.state source.old) from.entry.name.now) (expansion_found (S.state source.old) role.now (in_scope from.entry) Kind.Select false [])) }
-    ensures state { S.state source.new ≡ S.state source.old }
+    ensures { OnOk result (outcomes.new.items ≡ outcomes.old.items ++ finding.seen_under catalog.now role.now read.now from.entry.name.now (rows_of catalog.now from.entry.name.now) (expansion_found catalog.now role.now (in_scope from.entry) Kind.Select false [])) }
 {
-    let found = expansion_if(alloc, source, role, from, Kind::Select, false, &[])?;
-    let put = put_if(alloc, &*source, role, read, from.name, &found, outcomes);
+    let found = expansion_if(alloc, catalog, role, from, Kind::Select, false, &[])?;
+    let put = put_if(alloc, catalog, role, read, from.name, &found, outcomes);
     drop(found);
     put
 }
 
 /// The same under the policy expansion, if there is one.
-fn put_if<'c, S: RowSource<'c>>(
+fn put_if<'c>(
     alloc: Global,
-    source: &S,
+    catalog: &'c Catalog,
     role: &Name,
     read: &Footprint,
     name: &Name,
     found: &Option<PolicyExpansion<'c>>,
     outcomes: &mut Vec<RowOutcome>,
 ) -> Result<(), AllocError>
-    ensures { OnOk result (outcomes.new.items ≡ outcomes.old.items ++ finding.seen_under (S.state source.now) role.now read.now name.now (rows_of (S.state source.now) name.now) found.now) }
+    ensures { OnOk result (outcomes.new.items ≡ outcomes.old.items ++ finding.seen_under catalog.now role.now read.now name.now (rows_of catalog.now name.now) found.now) }
 {
     match found {
         Some(expansion) => {
             let context = old_rows(expansion, role);
-            put_rows(alloc, source, context, read, name, outcomes)
+            put_rows(alloc, catalog, context, read, name, outcomes)
         }
         None => Ok(()),
     }
 }
 
 /// Its rows that were read and that are shown.
-fn put_rows<'a, 'c, S: RowSource<'c>>(
+fn put_rows<'a, 'c>(
     alloc: Global,
-    source: &S,
+    catalog: &'c Catalog,
     context: CheckContext<'a, 'c>,
     read: &Footprint,
     name: &Name,
     outcomes: &mut Vec<RowOutcome>,
 ) -> Result<(), AllocError>
-    ensures { OnOk result (outcomes.new.items ≡ outcomes.old.items ++ finding.seen_by (S.state source.now) (shows context.entry.relations.now context.entry.role.now) context.entry.role.now context.entry.row_checks.now read.now name.now (rows_of (S.state source.now) name.now)) }
+    ensures { OnOk result (outcomes.new.items ≡ outcomes.old.items ++ finding.seen_by catalog.now (shows context.entry.relations.now context.entry.role.now) context.entry.role.now context.entry.row_checks.now read.now name.now (rows_of catalog.now name.now)) }
 {
     let whole = is_whole(read, name)?;
-    let rows = source.look(alloc, name)?;
+    let rows = catalog.rows(alloc, name)?;
     let put = put_read(
         alloc,
-        source,
+        catalog,
         context,
         whole,
         read,
@@ -175,9 +170,9 @@ fn put_rows<'a, 'c, S: RowSource<'c>>(
 }
 
 /// Those of these rows; whether all of the table were read is known.
-fn put_read<'a, 'c, S: RowSource<'c>>(
+fn put_read<'a, 'c>(
     alloc: Global,
-    source: &S,
+    catalog: &'c Catalog,
     context: CheckContext<'a, 'c>,
     whole: bool,
     read: &Footprint,
@@ -186,28 +181,28 @@ fn put_read<'a, 'c, S: RowSource<'c>>(
     outcomes: &mut Vec<RowOutcome>,
 ) -> Result<(), AllocError>
     requires { whole ≡ is_among read.now (Object.Rows name.now) }
-    ensures { OnOk result (outcomes.new.items ≡ outcomes.old.items ++ finding.seen_by (S.state source.now) (shows context.entry.relations.now context.entry.role.now) context.entry.role.now context.entry.row_checks.now read.now name.now rows.now) }
+    ensures { OnOk result (outcomes.new.items ≡ outcomes.old.items ++ finding.seen_by catalog.now (shows context.entry.relations.now context.entry.role.now) context.entry.role.now context.entry.row_checks.now read.now name.now rows.now) }
 {
     for stored in rows {
         if is_read(alloc, whole, read, name, stored)? {
-            put_shown(alloc, source, context, name, stored, outcomes)?;
+            put_shown(alloc, catalog, context, name, stored, outcomes)?;
         }
     }
     Ok(())
 }
 
 /// Tells of the row, which was read, where it is shown.
-fn put_shown<'a, 'c, S: RowSource<'c>>(
+fn put_shown<'a, 'c>(
     alloc: Global,
-    source: &S,
+    catalog: &'c Catalog,
     context: CheckContext<'a, 'c>,
     name: &Name,
     stored: &BorrowedRow<'c>,
     outcomes: &mut Vec<RowOutcome>,
 ) -> Result<(), AllocError>
-    ensures { OnOk result (outcomes.new.items ≡ outcomes.old.items ++ finding.seen_if true name.now stored.now (finding.fate_found (S.state source.now) (shows context.entry.relations.now context.entry.role.now) context.entry.role.now context.entry.row_checks.now None stored.now)) }
+    ensures { OnOk result (outcomes.new.items ≡ outcomes.old.items ++ finding.seen_if true name.now stored.now (finding.fate_found catalog.now (shows context.entry.relations.now context.entry.role.now) context.entry.role.now context.entry.row_checks.now None stored.now)) }
 {
-    match fate_of(alloc, source, context, &None, stored)? {
+    match fate_of(alloc, catalog, context, &None, stored)? {
         Fate::Met => {
             let word = RowWord::Seen;
             put_told(alloc, word, name, stored.id(), stored.row(), None, outcomes)

@@ -26,8 +26,8 @@ use rls_expr::{Column, FromTable, TableDef};
 use rls_judging::CheckContext;
 use rls_meaning::rls_access::Ctx;
 use rls_meaning::rls_expansion::PolicyExpansion;
-use rls_meaning::rls_guard::rls_catalog::BorrowedRow;
-use rls_meaning::rls_guard::rls_source::{Footprint, RowSource};
+use rls_meaning::rls_guard::rls_catalog::{BorrowedRow, Catalog};
+use rls_meaning::rls_guard::rls_source::Footprint;
 use rls_statement::Update;
 use rls_value::{Items, Kind, Name, Refusal, Row, RowId};
 use std::alloc::{AllocError, Global};
@@ -41,9 +41,9 @@ pub struct Ended {
 
 /// What an UPDATE did, which decided on this row.
 #[tactic(auto, using(crate::proofs::OutcomeLemmas::update_decides_none))]
-pub fn update_outcomes<'c, S: RowSource<'c>>(
+pub fn update_outcomes(
     alloc: Global,
-    source: &mut S,
+    catalog: &Catalog,
     ctx: &Ctx,
     update: &Update,
     reads: bool,
@@ -51,21 +51,20 @@ pub fn update_outcomes<'c, S: RowSource<'c>>(
     read: &Footprint,
     id: RowId,
 ) -> Result<Items<RowOutcome>, AllocError>
-    requires decides { Decides (S.state source.old) ctx.now (asked.Update update.now) (on_row id) }
-    requires reads { are_read (decisions_of (effect_of (S.state source.old) ctx.now (asked.Update update.now))) ≡ reads }
-    ensures rows { IfOk result (λ rows. rows ≡ finding.told_of (S.state source.old) ctx.now (asked.Update update.now) done read.now) }
-    ensures state { S.state source.new ≡ S.state source.old }
+    requires decides { Decides catalog.now ctx.now (asked.Update update.now) (on_row id) }
+    requires reads { are_read (decisions_of (effect_of catalog.now ctx.now (asked.Update update.now))) ≡ reads }
+    ensures { IfOk result (λ rows. rows ≡ finding.told_of catalog.now ctx.now (asked.Update update.now) done read.now) }
 {
-    match source.table(alloc, &update.table)? {
-        Some(table) => updated_outcomes(alloc, source, ctx, update, table, reads, done, read, id),
+    match catalog.table(&update.table) {
+        Some(table) => updated_outcomes(alloc, catalog, ctx, update, table, reads, done, read, id),
         None => Ok(Items::new(alloc)),
     }
 }
 
 /// The same of a table that is there.
-fn updated_outcomes<'c, S: RowSource<'c>>(
+fn updated_outcomes(
     alloc: Global,
-    source: &mut S,
+    catalog: &Catalog,
     ctx: &Ctx,
     update: &Update,
     table: &TableDef,
@@ -74,11 +73,10 @@ fn updated_outcomes<'c, S: RowSource<'c>>(
     read: &Footprint,
     id: RowId,
 ) -> Result<Items<RowOutcome>, AllocError>
-    requires there { table_of (S.state source.old) update.now.table ≡ Some table.now }
-    requires decides { Decides (S.state source.old) ctx.now (asked.Update update.now) (on_row id) }
-    requires reads { are_read (decisions_of (effect_of (S.state source.old) ctx.now (asked.Update update.now))) ≡ reads }
-    ensures rows { IfOk result (λ rows. rows ≡ finding.told_of (S.state source.old) ctx.now (asked.Update update.now) done read.now) }
-    ensures state { S.state source.new ≡ S.state source.old }
+    requires there { table_of catalog.now update.now.table ≡ Some table.now }
+    requires decides { Decides catalog.now ctx.now (asked.Update update.now) (on_row id) }
+    requires reads { are_read (decisions_of (effect_of catalog.now ctx.now (asked.Update update.now))) ≡ reads }
+    ensures { IfOk result (λ rows. rows ≡ finding.told_of catalog.now ctx.now (asked.Update update.now) done read.now) }
 {
     outcomes_found();
     let from = FromTable {
@@ -87,16 +85,16 @@ fn updated_outcomes<'c, S: RowSource<'c>>(
     };
     let returning = update.returning.is_some();
     let ended = Ended { returning, done };
-    let parts = update_parts(alloc, source, from, update)?;
-    let rows = outcomes_by(alloc, source, &ctx.role, from, &parts, reads, ended, read);
+    let parts = update_parts(alloc, catalog, from, update)?;
+    let rows = outcomes_by(alloc, catalog, &ctx.role, from, &parts, reads, ended, read);
     drop(parts);
     rows
 }
 
 /// By the parts of the statement.
-fn outcomes_by<'c, 'x, S: RowSource<'c>>(
+fn outcomes_by<'x>(
     alloc: Global,
-    source: &mut S,
+    catalog: &Catalog,
     role: &Name,
     from: FromTable<'x>,
     parts: &UpdateParts,
@@ -104,23 +102,22 @@ fn outcomes_by<'c, 'x, S: RowSource<'c>>(
     ended: Ended,
     read: &Footprint,
 ) -> Result<Items<RowOutcome>, AllocError>
-    ensures rows { IfOk result (λ rows. rows ≡ finding.updated_told (S.state source.old) role.now from.entry.name.now from.entry.table.now.columns parts.now.places.items parts.now.values parts.now.condition ended.returning ended.done read.now (all_tables parts.now.values ++ tables_if parts.now.condition) (rows_at_key (S.state source.old) from.entry.name.now (pinned_key role.now from.entry.table.now.key parts.now.condition)) (expansion_found (S.state source.old) role.now (in_scope from.entry) Kind.Update reads (all_tables parts.now.values ++ tables_if parts.now.condition))) }
-    ensures state { S.state source.new ≡ S.state source.old }
+    ensures { IfOk result (λ rows. rows ≡ finding.updated_told catalog.now role.now from.entry.name.now from.entry.table.now.columns parts.now.places.items parts.now.values parts.now.condition ended.returning ended.done read.now (all_tables parts.now.values ++ tables_if parts.now.condition) (rows_at_key catalog.now from.entry.name.now (pinned_key role.now from.entry.table.now.key parts.now.condition)) (expansion_found catalog.now role.now (in_scope from.entry) Kind.Update reads (all_tables parts.now.values ++ tables_if parts.now.condition))) }
 {
     let queries = parts.tables(alloc)?;
     let looks = Looks {
         queries: queries.as_slice(),
         read,
     };
-    let rows = outcomes_looking(alloc, source, role, from, parts, reads, ended, looks);
+    let rows = outcomes_looking(alloc, catalog, role, from, parts, reads, ended, looks);
     drop(queries);
     rows
 }
 
 /// The same, where subqueries look at these tables.
-fn outcomes_looking<'c, 'x, S: RowSource<'c>>(
+fn outcomes_looking<'x>(
     alloc: Global,
-    source: &mut S,
+    catalog: &Catalog,
     role: &Name,
     from: FromTable<'x>,
     parts: &UpdateParts,
@@ -128,20 +125,19 @@ fn outcomes_looking<'c, 'x, S: RowSource<'c>>(
     ended: Ended,
     looks: Looks<'x>,
 ) -> Result<Items<RowOutcome>, AllocError>
-    ensures rows { IfOk result (λ rows. rows ≡ finding.updated_told (S.state source.old) role.now from.entry.name.now from.entry.table.now.columns parts.now.places.items parts.now.values parts.now.condition ended.returning ended.done looks.entry.read.now looks.entry.queries.now (rows_at_key (S.state source.old) from.entry.name.now (pinned_key role.now from.entry.table.now.key parts.now.condition)) (expansion_found (S.state source.old) role.now (in_scope from.entry) Kind.Update reads looks.entry.queries.now)) }
-    ensures state { S.state source.new ≡ S.state source.old }
+    ensures { IfOk result (λ rows. rows ≡ finding.updated_told catalog.now role.now from.entry.name.now from.entry.table.now.columns parts.now.places.items parts.now.values parts.now.condition ended.returning ended.done looks.entry.read.now looks.entry.queries.now (rows_at_key catalog.now from.entry.name.now (pinned_key role.now from.entry.table.now.key parts.now.condition)) (expansion_found catalog.now role.now (in_scope from.entry) Kind.Update reads looks.entry.queries.now)) }
 {
     let kind = Kind::Update;
-    let found = expansion_if(alloc, source, role, from, kind, reads, looks.queries)?;
-    let rows = outcomes_if(alloc, source, role, from, parts, ended, looks, &found);
+    let found = expansion_if(alloc, catalog, role, from, kind, reads, looks.queries)?;
+    let rows = outcomes_if(alloc, catalog, role, from, parts, ended, looks, &found);
     drop(found);
     rows
 }
 
 /// The same under the policy expansion, if there is one.
-fn outcomes_if<'c, 'x, S: RowSource<'c>>(
+fn outcomes_if<'c, 'x>(
     alloc: Global,
-    source: &mut S,
+    catalog: &'c Catalog,
     role: &Name,
     from: FromTable<'x>,
     parts: &UpdateParts,
@@ -149,36 +145,34 @@ fn outcomes_if<'c, 'x, S: RowSource<'c>>(
     looks: Looks<'x>,
     found: &Option<PolicyExpansion<'c>>,
 ) -> Result<Items<RowOutcome>, AllocError>
-    ensures rows { IfOk result (λ rows. rows ≡ finding.updated_told (S.state source.old) role.now from.entry.name.now from.entry.table.now.columns parts.now.places.items parts.now.values parts.now.condition ended.returning ended.done looks.entry.read.now looks.entry.queries.now (rows_at_key (S.state source.old) from.entry.name.now (pinned_key role.now from.entry.table.now.key parts.now.condition)) found.now) }
-    ensures state { S.state source.new ≡ S.state source.old }
+    ensures { IfOk result (λ rows. rows ≡ finding.updated_told catalog.now role.now from.entry.name.now from.entry.table.now.columns parts.now.places.items parts.now.values parts.now.condition ended.returning ended.done looks.entry.read.now looks.entry.queries.now (rows_at_key catalog.now from.entry.name.now (pinned_key role.now from.entry.table.now.key parts.now.condition)) found.now) }
 {
     match found {
         Some(expansion) => {
-            let outcomes = ended_outcomes(alloc, source, role, from, parts, ended, expansion)?;
-            with_seen(alloc, source, role, expansion, looks, outcomes)
+            let outcomes = ended_outcomes(alloc, catalog, role, from, parts, ended, expansion)?;
+            with_seen(alloc, catalog, role, expansion, looks, outcomes)
         }
         None => Ok(Items::new(alloc)),
     }
 }
 
 /// Without what subqueries could see.
-fn ended_outcomes<'c, 'x, S: RowSource<'c>>(
+fn ended_outcomes<'c, 'x>(
     alloc: Global,
-    source: &mut S,
+    catalog: &'c Catalog,
     role: &Name,
     from: FromTable<'x>,
     parts: &UpdateParts,
     ended: Ended,
     expansion: &PolicyExpansion<'c>,
 ) -> Result<Items<RowOutcome>, AllocError>
-    ensures rows { IfOk result (λ rows. rows ≡ finding.ended_told (S.state source.old) role.now from.entry.name.now from.entry.table.now.columns parts.now.places.items parts.now.values parts.now.condition ended.returning ended.done (rows_at_key (S.state source.old) from.entry.name.now (pinned_key role.now from.entry.table.now.key parts.now.condition)) expansion.now) }
-    ensures state { S.state source.new ≡ S.state source.old }
+    ensures { IfOk result (λ rows. rows ≡ finding.ended_told catalog.now role.now from.entry.name.now from.entry.table.now.columns parts.now.places.items parts.now.values parts.now.condition ended.returning ended.done (rows_at_key catalog.now from.entry.name.now (pinned_key role.now from.entry.table.now.key parts.now.condition)) expansion.now) }
 {
-    let rows = rows_scanned(alloc, source, role, from, &parts.condition)?;
+    let rows = rows_scanned(alloc, catalog, role, from, &parts.condition)?;
     if ended.done {
         done_outcomes(
             alloc,
-            &*source,
+            catalog,
             role,
             from,
             parts,
@@ -187,14 +181,14 @@ fn ended_outcomes<'c, 'x, S: RowSource<'c>>(
             rows.as_slice(),
         )
     } else {
-        refused_outcomes(alloc, source, role, from, parts, expansion, rows.as_slice())
+        refused_outcomes(alloc, catalog, role, from, parts, expansion, rows.as_slice())
     }
 }
 
 /// Of an UPDATE that was done.
-fn done_outcomes<'c, 'x, S: RowSource<'c>>(
+fn done_outcomes<'c, 'x>(
     alloc: Global,
-    source: &S,
+    catalog: &'c Catalog,
     role: &Name,
     from: FromTable<'x>,
     parts: &UpdateParts,
@@ -202,12 +196,12 @@ fn done_outcomes<'c, 'x, S: RowSource<'c>>(
     expansion: &PolicyExpansion<'c>,
     rows: &[BorrowedRow<'c>],
 ) -> Result<Items<RowOutcome>, AllocError>
-    ensures { IfOk result (λ outcomes. outcomes ≡ finding.update_told (S.state source.now) role.now from.entry.name.now from.entry.table.now.columns parts.now.places.items parts.now.values parts.now.condition returning rows.now expansion.now) }
+    ensures { IfOk result (λ outcomes. outcomes ≡ finding.update_told catalog.now role.now from.entry.name.now from.entry.table.now.columns parts.now.places.items parts.now.values parts.now.condition returning rows.now expansion.now) }
 {
     let mut outcomes = Vec::new(alloc);
     put_done(
         alloc,
-        source,
+        catalog,
         old_rows(expansion, role),
         from,
         parts,
@@ -219,9 +213,9 @@ fn done_outcomes<'c, 'x, S: RowSource<'c>>(
 }
 
 /// Tells of each of its rows.
-fn put_done<'a, 'c, 'x, S: RowSource<'c>>(
+fn put_done<'a, 'c, 'x>(
     alloc: Global,
-    source: &S,
+    catalog: &'c Catalog,
     context: CheckContext<'a, 'c>,
     from: FromTable<'x>,
     parts: &UpdateParts,
@@ -229,20 +223,20 @@ fn put_done<'a, 'c, 'x, S: RowSource<'c>>(
     rows: &[BorrowedRow<'c>],
     outcomes: &mut Vec<RowOutcome>,
 ) -> Result<(), AllocError>
-    ensures { OnOk result (outcomes.new.items ≡ outcomes.old.items ++ finding.scanned_found (S.state source.now) (shows context.entry.relations.now context.entry.role.now) context.entry.role.now context.entry.row_checks.now from.entry.name.now parts.now.condition (λ stored. finding.changed_by from.entry.name.now returning stored (finding.version_found (S.state source.now) (shows context.entry.relations.now context.entry.role.now) context.entry.role.now from.entry.table.now.columns parts.now.places.items parts.now.values stored)) rows.now) }
+    ensures { OnOk result (outcomes.new.items ≡ outcomes.old.items ++ finding.scanned_found catalog.now (shows context.entry.relations.now context.entry.role.now) context.entry.role.now context.entry.row_checks.now from.entry.name.now parts.now.condition (λ stored. finding.changed_by from.entry.name.now returning stored (finding.version_found catalog.now (shows context.entry.relations.now context.entry.role.now) context.entry.role.now from.entry.table.now.columns parts.now.places.items parts.now.values stored)) rows.now) }
 {
     for stored in rows {
         put_updated(
-            alloc, source, context, from, parts, returning, stored, outcomes,
+            alloc, catalog, context, from, parts, returning, stored, outcomes,
         )?;
     }
     Ok(())
 }
 
 /// Tells of one of them.
-fn put_updated<'a, 'c, 'x, S: RowSource<'c>>(
+fn put_updated<'a, 'c, 'x>(
     alloc: Global,
-    source: &S,
+    catalog: &'c Catalog,
     context: CheckContext<'a, 'c>,
     from: FromTable<'x>,
     parts: &UpdateParts,
@@ -250,11 +244,11 @@ fn put_updated<'a, 'c, 'x, S: RowSource<'c>>(
     stored: &BorrowedRow<'c>,
     outcomes: &mut Vec<RowOutcome>,
 ) -> Result<(), AllocError>
-    ensures { OnOk result (outcomes.new.items ≡ outcomes.old.items ++ spec.scanned_as from.entry.name.now (finding.fate_found (S.state source.now) (shows context.entry.relations.now context.entry.role.now) context.entry.role.now context.entry.row_checks.now parts.now.condition stored.now) stored.now (finding.changed_by from.entry.name.now returning stored.now (finding.version_found (S.state source.now) (shows context.entry.relations.now context.entry.role.now) context.entry.role.now from.entry.table.now.columns parts.now.places.items parts.now.values stored.now))) }
+    ensures { OnOk result (outcomes.new.items ≡ outcomes.old.items ++ spec.scanned_as from.entry.name.now (finding.fate_found catalog.now (shows context.entry.relations.now context.entry.role.now) context.entry.role.now context.entry.row_checks.now parts.now.condition stored.now) stored.now (finding.changed_by from.entry.name.now returning stored.now (finding.version_found catalog.now (shows context.entry.relations.now context.entry.role.now) context.entry.role.now from.entry.table.now.columns parts.now.places.items parts.now.values stored.now))) }
 {
-    match fate_of(alloc, source, context, &parts.condition, stored)? {
+    match fate_of(alloc, catalog, context, &parts.condition, stored)? {
         Fate::Met => put_changed(
-            alloc, source, context, from, parts, returning, stored, outcomes,
+            alloc, catalog, context, from, parts, returning, stored, outcomes,
         ),
         Fate::Denied(reason) => put_denied(alloc, from.name, reason, stored, outcomes),
         Fate::Unmet(truth) => put_skipped(alloc, from.name, truth, stored, outcomes),
@@ -262,9 +256,9 @@ fn put_updated<'a, 'c, 'x, S: RowSource<'c>>(
 }
 
 /// Tells of a row that was changed.
-fn put_changed<'a, 'c, 'x, S: RowSource<'c>>(
+fn put_changed<'a, 'c, 'x>(
     alloc: Global,
-    source: &S,
+    catalog: &'c Catalog,
     context: CheckContext<'a, 'c>,
     from: FromTable<'x>,
     parts: &UpdateParts,
@@ -272,11 +266,11 @@ fn put_changed<'a, 'c, 'x, S: RowSource<'c>>(
     stored: &BorrowedRow<'c>,
     outcomes: &mut Vec<RowOutcome>,
 ) -> Result<(), AllocError>
-    ensures { OnOk result (outcomes.new.items ≡ outcomes.old.items ++ finding.changed_by from.entry.name.now returning stored.now (finding.version_found (S.state source.now) (shows context.entry.relations.now context.entry.role.now) context.entry.role.now from.entry.table.now.columns parts.now.places.items parts.now.values stored.now)) }
+    ensures { OnOk result (outcomes.new.items ≡ outcomes.old.items ++ finding.changed_by from.entry.name.now returning stored.now (finding.version_found catalog.now (shows context.entry.relations.now context.entry.role.now) context.entry.role.now from.entry.table.now.columns parts.now.places.items parts.now.values stored.now)) }
 {
     match version_of(
         alloc,
-        source,
+        catalog,
         context,
         from.table.columns.as_slice(),
         parts,
@@ -292,15 +286,15 @@ fn put_changed<'a, 'c, 'x, S: RowSource<'c>>(
 }
 
 /// What UPDATE writes in the place of the row.
-fn version_of<'a, 'c, S: RowSource<'c>>(
+fn version_of<'a, 'c>(
     alloc: Global,
-    source: &S,
+    catalog: &'c Catalog,
     context: CheckContext<'a, 'c>,
     columns: &[Column],
     parts: &UpdateParts,
     stored: &BorrowedRow<'c>,
 ) -> Result<Row, Refusal>
-    ensures { Gives result (finding.version_found (S.state source.now) (shows context.entry.relations.now context.entry.role.now) context.entry.role.now columns.now parts.now.places.items parts.now.values stored.now) }
+    ensures { Gives result (finding.version_found catalog.now (shows context.entry.relations.now context.entry.role.now) context.entry.role.now columns.now parts.now.places.items parts.now.values stored.now) }
 {
     let relations = &*context.relations;
     let role = &*context.role;
@@ -308,7 +302,7 @@ fn version_of<'a, 'c, S: RowSource<'c>>(
     let terms = parts.values.as_slice();
     new_version(
         alloc,
-        source,
+        catalog,
         relations,
         role,
         columns,
@@ -391,19 +385,18 @@ fn both_rows(alloc: Global, row: &Row, new: &Row) -> Result<(Row, Row), AllocErr
 }
 
 /// Of an UPDATE that was refused: its rows, then the new ones.
-fn refused_outcomes<'c, 'x, S: RowSource<'c>>(
+fn refused_outcomes<'c, 'x>(
     alloc: Global,
-    source: &mut S,
+    catalog: &'c Catalog,
     role: &Name,
     from: FromTable<'x>,
     parts: &UpdateParts,
     expansion: &PolicyExpansion<'c>,
     rows: &[BorrowedRow<'c>],
 ) -> Result<Items<RowOutcome>, AllocError>
-    ensures rows { IfOk result (λ outcomes. outcomes ≡ finding.refusal_told (S.state source.old) role.now from.entry.name.now from.entry.table.now.columns parts.now.places.items parts.now.values parts.now.condition rows.now expansion.now) }
-    ensures state { S.state source.new ≡ S.state source.old }
+    ensures { IfOk result (λ outcomes. outcomes ≡ finding.refusal_told catalog.now role.now from.entry.name.now from.entry.table.now.columns parts.now.places.items parts.now.values parts.now.condition rows.now expansion.now) }
 {
-    let qualifying = rows_qualifying(alloc, source, role, expansion, &parts.condition, rows)?;
+    let qualifying = rows_qualifying(alloc, catalog, role, expansion, &parts.condition, rows)?;
     let mut outcomes = Vec::new(alloc);
     let met = Met {
         word: RowWord::Matched,
@@ -413,7 +406,7 @@ fn refused_outcomes<'c, 'x, S: RowSource<'c>>(
     let new = new_rows(expansion, role);
     put_scanned(
         alloc,
-        &*source,
+        catalog,
         old,
         from.name,
         &parts.condition,
@@ -423,7 +416,7 @@ fn refused_outcomes<'c, 'x, S: RowSource<'c>>(
     )?;
     put_refused(
         alloc,
-        &*source,
+        catalog,
         new,
         from,
         parts,
@@ -434,23 +427,23 @@ fn refused_outcomes<'c, 'x, S: RowSource<'c>>(
 }
 
 /// Tells of the new versions of the rows.
-fn put_refused<'a, 'c, 'x, S: RowSource<'c>>(
+fn put_refused<'a, 'c, 'x>(
     alloc: Global,
-    source: &S,
+    catalog: &'c Catalog,
     context: CheckContext<'a, 'c>,
     from: FromTable<'x>,
     parts: &UpdateParts,
     rows: &[&BorrowedRow<'c>],
     outcomes: &mut Vec<RowOutcome>,
 ) -> Result<(), AllocError>
-    ensures { OnOk result (outcomes.new.items ≡ outcomes.old.items ++ flat_map (λ stored. finding.refused_by (S.state source.now) (shows context.entry.relations.now context.entry.role.now) context.entry.role.now context.entry.row_checks.now from.entry.name.now stored.id (finding.version_found (S.state source.now) (shows context.entry.relations.now context.entry.role.now) context.entry.role.now from.entry.table.now.columns parts.now.places.items parts.now.values stored)) (map (λ row. row.now) rows.now)) }
+    ensures { OnOk result (outcomes.new.items ≡ outcomes.old.items ++ flat_map (λ stored. finding.refused_by catalog.now (shows context.entry.relations.now context.entry.role.now) context.entry.role.now context.entry.row_checks.now from.entry.name.now stored.id (finding.version_found catalog.now (shows context.entry.relations.now context.entry.role.now) context.entry.role.now from.entry.table.now.columns parts.now.places.items parts.now.values stored)) (map (λ row. row.now) rows.now)) }
 {
     for stored in rows {
         let columns = from.table.columns.as_slice();
-        let made = version_of(alloc, source, context, columns, parts, stored);
+        let made = version_of(alloc, catalog, context, columns, parts, stored);
         put_refused_one(
             alloc,
-            source,
+            catalog,
             context,
             from.name,
             stored.id(),
@@ -462,20 +455,20 @@ fn put_refused<'a, 'c, 'x, S: RowSource<'c>>(
 }
 
 /// Tells of a new row of a statement that was refused; nothing where a value is out of range.
-pub fn put_refused_one<'a, 'c, S: RowSource<'c>>(
+pub fn put_refused_one<'a, 'c>(
     alloc: Global,
-    source: &S,
+    catalog: &'c Catalog,
     context: CheckContext<'a, 'c>,
     table: &Name,
     id: RowId,
     made: Result<Row, Refusal>,
     outcomes: &mut Vec<RowOutcome>,
 ) -> Result<(), AllocError>
-    ensures { (given : Result (List SpecValue) SpecRefusal) → Gives made given → OnOk result (outcomes.new.items ≡ outcomes.old.items ++ finding.refused_by (S.state source.now) (shows context.entry.relations.now context.entry.role.now) context.entry.role.now context.entry.row_checks.now table.now id given) }
+    ensures { (given : Result (List SpecValue) SpecRefusal) → Gives made given → OnOk result (outcomes.new.items ≡ outcomes.old.items ++ finding.refused_by catalog.now (shows context.entry.relations.now context.entry.role.now) context.entry.role.now context.entry.row_checks.now table.now id given) }
 {
     match made {
         Ok(row) => {
-            let put = put_judged(alloc, source, context, table, id, &row, outcomes);
+            let put = put_judged(alloc, catalog, context, table, id, &row, outcomes);
             drop(row);
             put
         }
@@ -487,18 +480,18 @@ pub fn put_refused_one<'a, 'c, S: RowSource<'c>>(
     }
 }
 
-fn put_judged<'a, 'c, S: RowSource<'c>>(
+fn put_judged<'a, 'c>(
     alloc: Global,
-    source: &S,
+    catalog: &'c Catalog,
     context: CheckContext<'a, 'c>,
     table: &Name,
     id: RowId,
     row: &Row,
     outcomes: &mut Vec<RowOutcome>,
 ) -> Result<(), AllocError>
-    ensures { OnOk result (outcomes.new.items ≡ outcomes.old.items ++ finding.refused_by (S.state source.now) (shows context.entry.relations.now context.entry.role.now) context.entry.role.now context.entry.row_checks.now table.now id (Ok row.now)) }
+    ensures { OnOk result (outcomes.new.items ≡ outcomes.old.items ++ finding.refused_by catalog.now (shows context.entry.relations.now context.entry.role.now) context.entry.role.now context.entry.row_checks.now table.now id (Ok row.now)) }
 {
-    match denial_on(alloc, source, context, id, row)? {
+    match denial_on(alloc, catalog, context, id, row)? {
         Some(reason) => put_told(
             alloc,
             RowWord::Refused,

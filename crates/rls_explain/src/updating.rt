@@ -23,122 +23,116 @@ use rls_expr::{Column, Expr, FromTable, TableDef};
 use rls_judging::CheckContext;
 use rls_meaning::rls_access::Ctx;
 use rls_meaning::rls_expansion::PolicyExpansion;
-use rls_meaning::rls_guard::rls_catalog::BorrowedRow;
+use rls_meaning::rls_guard::rls_catalog::{BorrowedRow, Catalog};
 use rls_meaning::rls_guard::rls_evaluation::{Env, Scoped, SecuredRelation};
-use rls_meaning::rls_guard::rls_source::RowSource;
 use rls_statement::Update;
 use rls_value::{Items, Kind, Name, Refusal, Row};
 use std::alloc::{AllocError, Global};
 
 /// Explains the decisions of an UPDATE that are wanted, on rows and on what would come of them.
 #[tactic(auto, using(crate::proofs::DecidedLemmas::update_without_table))]
-pub fn explain_update<'c, S: RowSource<'c>>(
+pub fn explain_update(
     alloc: Global,
-    source: &mut S,
+    catalog: &Catalog,
     ctx: &Ctx,
     update: &Update,
     reads: bool,
     wanted: Wanted,
 ) -> Result<Items<Explained>, AllocError>
-    requires decided { spec.is_decided wanted (decisions_of (effect_of (S.state source.old) ctx.now (asked.Update update.now))) ≡ true }
-    requires reads { spec.are_read (decisions_of (effect_of (S.state source.old) ctx.now (asked.Update update.now))) ≡ reads }
-    ensures row { IfOk result (λ explained. explained ≡ explained_in (S.state source.old) ctx.now (asked.Update update.now) (Some wanted)) }
-    ensures state { S.state source.new ≡ S.state source.old }
+    requires decided { spec.is_decided wanted (decisions_of (effect_of catalog.now ctx.now (asked.Update update.now))) ≡ true }
+    requires reads { spec.are_read (decisions_of (effect_of catalog.now ctx.now (asked.Update update.now))) ≡ reads }
+    ensures { IfOk result (λ explained. explained ≡ explained_in catalog.now ctx.now (asked.Update update.now) (Some wanted)) }
 {
-    match source.table(alloc, &update.table)? {
-        Some(table) => explain_updated(alloc, source, ctx, update, table, reads, wanted),
+    match catalog.table(&update.table) {
+        Some(table) => explain_updated(alloc, catalog, ctx, update, table, reads, wanted),
         None => Ok(Items::new(alloc)),
     }
 }
 
 /// The same of a table that is there.
-fn explain_updated<'c, S: RowSource<'c>>(
+fn explain_updated(
     alloc: Global,
-    source: &mut S,
+    catalog: &Catalog,
     ctx: &Ctx,
     update: &Update,
     table: &TableDef,
     reads: bool,
     wanted: Wanted,
 ) -> Result<Items<Explained>, AllocError>
-    requires there { table_of (S.state source.old) update.now.table ≡ Some table.now }
-    requires decided { spec.is_decided wanted (decisions_of (effect_of (S.state source.old) ctx.now (asked.Update update.now))) ≡ true }
-    requires reads { spec.are_read (decisions_of (effect_of (S.state source.old) ctx.now (asked.Update update.now))) ≡ reads }
-    ensures row { IfOk result (λ explained. explained ≡ explained_in (S.state source.old) ctx.now (asked.Update update.now) (Some wanted)) }
-    ensures state { S.state source.new ≡ S.state source.old }
+    requires there { table_of catalog.now update.now.table ≡ Some table.now }
+    requires decided { spec.is_decided wanted (decisions_of (effect_of catalog.now ctx.now (asked.Update update.now))) ≡ true }
+    requires reads { spec.are_read (decisions_of (effect_of catalog.now ctx.now (asked.Update update.now))) ≡ reads }
+    ensures { IfOk result (λ explained. explained ≡ explained_in catalog.now ctx.now (asked.Update update.now) (Some wanted)) }
 {
     decisions_found();
     let from = FromTable {
         name: &update.table,
         table,
     };
-    let parts = update_parts(alloc, source, from, update)?;
-    let explained = explain_parts(alloc, source, &ctx.role, from, &parts, reads, wanted);
+    let parts = update_parts(alloc, catalog, from, update)?;
+    let explained = explain_parts(alloc, catalog, &ctx.role, from, &parts, reads, wanted);
     drop(parts);
     explained
 }
 
 /// Explains the decisions by the parts of the statement.
-fn explain_parts<'c, 'x, S: RowSource<'c>>(
+fn explain_parts<'x>(
     alloc: Global,
-    source: &mut S,
+    catalog: &Catalog,
     role: &Name,
     from: FromTable<'x>,
     parts: &UpdateParts,
     reads: bool,
     wanted: Wanted,
 ) -> Result<Items<Explained>, AllocError>
-    ensures row { IfOk result (λ explained. explained ≡ spec.update_found (S.state source.old) role.now (in_scope from.entry) wanted from.entry.table.now.columns parts.now.places.items parts.now.values parts.now.condition (rows_at_key (S.state source.old) from.entry.name.now (pinned_key role.now from.entry.table.now.key parts.now.condition)) (spec.expansion_found (S.state source.old) role.now (in_scope from.entry) Kind.Update reads (all_tables parts.now.values ++ tables_if parts.now.condition))) }
-    ensures state { S.state source.new ≡ S.state source.old }
+    ensures { IfOk result (λ explained. explained ≡ spec.update_found catalog.now role.now (in_scope from.entry) wanted from.entry.table.now.columns parts.now.places.items parts.now.values parts.now.condition (rows_at_key catalog.now from.entry.name.now (pinned_key role.now from.entry.table.now.key parts.now.condition)) (spec.expansion_found catalog.now role.now (in_scope from.entry) Kind.Update reads (all_tables parts.now.values ++ tables_if parts.now.condition))) }
 {
     let queries = parts.tables(alloc)?;
     let kind = Kind::Update;
-    let found = expansion_if(alloc, source, role, from, kind, reads, queries.as_slice());
+    let found = expansion_if(alloc, catalog, role, from, kind, reads, queries.as_slice());
     drop(queries);
     let found = found?;
-    let explained = explain_if(alloc, source, role, from, parts, wanted, &found);
+    let explained = explain_if(alloc, catalog, role, from, parts, wanted, &found);
     drop(found);
     explained
 }
 
 /// The same under the policy expansion, if there is one.
-fn explain_if<'c, 'x, S: RowSource<'c>>(
+fn explain_if<'c, 'x>(
     alloc: Global,
-    source: &mut S,
+    catalog: &'c Catalog,
     role: &Name,
     from: FromTable<'x>,
     parts: &UpdateParts,
     wanted: Wanted,
     found: &Option<PolicyExpansion<'c>>,
 ) -> Result<Items<Explained>, AllocError>
-    ensures row { IfOk result (λ explained. explained ≡ spec.update_found (S.state source.old) role.now (in_scope from.entry) wanted from.entry.table.now.columns parts.now.places.items parts.now.values parts.now.condition (rows_at_key (S.state source.old) from.entry.name.now (pinned_key role.now from.entry.table.now.key parts.now.condition)) found.now) }
-    ensures state { S.state source.new ≡ S.state source.old }
+    ensures { IfOk result (λ explained. explained ≡ spec.update_found catalog.now role.now (in_scope from.entry) wanted from.entry.table.now.columns parts.now.places.items parts.now.values parts.now.condition (rows_at_key catalog.now from.entry.name.now (pinned_key role.now from.entry.table.now.key parts.now.condition)) found.now) }
 {
     match found {
-        Some(expansion) => explain_under(alloc, source, role, from, parts, wanted, expansion),
+        Some(expansion) => explain_under(alloc, catalog, role, from, parts, wanted, expansion),
         None => Ok(Items::new(alloc)),
     }
 }
 
-fn explain_under<'c, 'x, S: RowSource<'c>>(
+fn explain_under<'c, 'x>(
     alloc: Global,
-    source: &mut S,
+    catalog: &'c Catalog,
     role: &Name,
     from: FromTable<'x>,
     parts: &UpdateParts,
     wanted: Wanted,
     expansion: &PolicyExpansion<'c>,
 ) -> Result<Items<Explained>, AllocError>
-    ensures row { IfOk result (λ explained. explained ≡ spec.update_found (S.state source.old) role.now (in_scope from.entry) wanted from.entry.table.now.columns parts.now.places.items parts.now.values parts.now.condition (rows_at_key (S.state source.old) from.entry.name.now (pinned_key role.now from.entry.table.now.key parts.now.condition)) (Some expansion.now)) }
-    ensures state { S.state source.new ≡ S.state source.old }
+    ensures { IfOk result (λ explained. explained ≡ spec.update_found catalog.now role.now (in_scope from.entry) wanted from.entry.table.now.columns parts.now.places.items parts.now.values parts.now.condition (rows_at_key catalog.now from.entry.name.now (pinned_key role.now from.entry.table.now.key parts.now.condition)) (Some expansion.now)) }
 {
-    let scanned = rows_scanned(alloc, source, role, from, &parts.condition)?;
+    let scanned = rows_scanned(alloc, catalog, role, from, &parts.condition)?;
     let rows = scanned.as_slice();
-    let qualifying = rows_qualifying(alloc, source, role, expansion, &parts.condition, rows)?;
+    let qualifying = rows_qualifying(alloc, catalog, role, expansion, &parts.condition, rows)?;
     let columns = from.table.columns.as_slice();
     let explained = explain_both(
         alloc,
-        &*source,
+        catalog,
         role,
         columns,
         parts,
@@ -151,7 +145,7 @@ fn explain_under<'c, 'x, S: RowSource<'c>>(
     let relations = expansion.relations.as_slice();
     detailed_if(
         alloc,
-        source,
+        catalog,
         wanted.long,
         role,
         from,
@@ -161,9 +155,9 @@ fn explain_under<'c, 'x, S: RowSource<'c>>(
 }
 
 /// Explains the decisions on the rows that are scanned, then those on the new versions of the rows that qualify.
-fn explain_both<'c, S: RowSource<'c>>(
+fn explain_both<'c>(
     alloc: Global,
-    source: &S,
+    catalog: &'c Catalog,
     role: &Name,
     columns: &[Column],
     parts: &UpdateParts,
@@ -172,15 +166,15 @@ fn explain_both<'c, S: RowSource<'c>>(
     scanned: &[BorrowedRow<'c>],
     qualifying: &[&BorrowedRow<'c>],
 ) -> Result<Vec<Explained>, AllocError>
-    ensures { IfOk result (λ explained. explained.items ≡ spec.rows_found (S.state source.now) (shows expansion.now.relations role.now) role.now expansion.now.old wanted scanned.now ++ spec.versions_found (S.state source.now) (shows expansion.now.relations role.now) role.now expansion.now.new columns.now parts.now.places.items parts.now.values wanted (map (λ row. row.now) qualifying.now)) }
+    ensures { IfOk result (λ explained. explained.items ≡ spec.rows_found catalog.now (shows expansion.now.relations role.now) role.now expansion.now.old wanted scanned.now ++ spec.versions_found catalog.now (shows expansion.now.relations role.now) role.now expansion.now.new columns.now parts.now.places.items parts.now.values wanted (map (λ row. row.now) qualifying.now)) }
 {
     let mut explained = Vec::new(alloc);
     let old = old_rows(expansion, role);
-    put_rows(alloc, source, old, wanted, scanned, &mut explained)?;
+    put_rows(alloc, catalog, old, wanted, scanned, &mut explained)?;
     let new = new_rows(expansion, role);
     put_versions(
         alloc,
-        source,
+        catalog,
         new,
         columns,
         parts,
@@ -192,9 +186,9 @@ fn explain_both<'c, S: RowSource<'c>>(
 }
 
 /// Explains the decisions on the new versions of the rows that are wanted, behind those that are there.
-fn put_versions<'a, 'c, S: RowSource<'c>>(
+fn put_versions<'a, 'c>(
     alloc: Global,
-    source: &S,
+    catalog: &'c Catalog,
     context: CheckContext<'a, 'c>,
     columns: &[Column],
     parts: &UpdateParts,
@@ -202,36 +196,36 @@ fn put_versions<'a, 'c, S: RowSource<'c>>(
     rows: &[&BorrowedRow<'c>],
     explained: &mut Vec<Explained>,
 ) -> Result<(), AllocError>
-    ensures { OnOk result (explained.new.items ≡ explained.old.items ++ spec.versions_found (S.state source.now) (shows context.entry.relations.now context.entry.role.now) context.entry.role.now context.entry.row_checks.now columns.now parts.now.places.items parts.now.values wanted (map (λ row. row.now) rows.now)) }
+    ensures { OnOk result (explained.new.items ≡ explained.old.items ++ spec.versions_found catalog.now (shows context.entry.relations.now context.entry.role.now) context.entry.role.now context.entry.row_checks.now columns.now parts.now.places.items parts.now.values wanted (map (λ row. row.now) rows.now)) }
 {
     for stored in rows {
         if is_wanted(wanted, stored.id()) {
-            put_version(alloc, source, context, columns, parts, stored, explained)?;
+            put_version(alloc, catalog, context, columns, parts, stored, explained)?;
         }
     }
     Ok(())
 }
 
 /// Explains the decisions on the new version of the row; none where a value is out of range.
-fn put_version<'a, 'c, S: RowSource<'c>>(
+fn put_version<'a, 'c>(
     alloc: Global,
-    source: &S,
+    catalog: &'c Catalog,
     context: CheckContext<'a, 'c>,
     columns: &[Column],
     parts: &UpdateParts,
     stored: &BorrowedRow<'c>,
     explained: &mut Vec<Explained>,
 ) -> Result<(), AllocError>
-    ensures { OnOk result (explained.new.items ≡ explained.old.items ++ spec.new_found (S.state source.now) (shows context.entry.relations.now context.entry.role.now) context.entry.role.now context.entry.row_checks.now stored.now.id (spec.row_written (S.state source.now) (shows context.entry.relations.now context.entry.role.now) (over context.entry.role.now stored.now.row) columns.now parts.now.places.items parts.now.values stored.now.row)) }
+    ensures { OnOk result (explained.new.items ≡ explained.old.items ++ spec.new_found catalog.now (shows context.entry.relations.now context.entry.role.now) context.entry.role.now context.entry.row_checks.now stored.now.id (spec.row_written catalog.now (shows context.entry.relations.now context.entry.role.now) (over context.entry.role.now stored.now.row) columns.now parts.now.places.items parts.now.values stored.now.row)) }
 {
     let relations = &*context.relations;
     let role = &*context.role;
     let places = parts.places.as_slice();
     let terms = parts.values.as_slice();
     let row = stored.row();
-    match new_version(alloc, source, relations, role, columns, places, terms, row) {
+    match new_version(alloc, catalog, relations, role, columns, places, terms, row) {
         Ok(row) => {
-            let put = put_row(alloc, source, context, stored.id(), &row, explained);
+            let put = put_row(alloc, catalog, context, stored.id(), &row, explained);
             drop(row);
             put
         }
@@ -244,9 +238,9 @@ fn put_version<'a, 'c, S: RowSource<'c>>(
 }
 
 /// The row with its new values, over itself as it stands.
-pub fn new_version<'a, 'c, S: RowSource<'c>>(
+pub fn new_version<'a, 'c>(
     alloc: Global,
-    source: &S,
+    catalog: &'c Catalog,
     relations: &'a [SecuredRelation<'c>],
     role: &'a Name,
     columns: &[Column],
@@ -254,7 +248,7 @@ pub fn new_version<'a, 'c, S: RowSource<'c>>(
     terms: &'a [Expr],
     row: &'a Row,
 ) -> Result<Row, Refusal>
-    ensures { Gives result (spec.row_written (S.state source.now) (shows relations.now role.now) (over role.now row.now) columns.now places.now terms.now row.now) }
+    ensures { Gives result (spec.row_written catalog.now (shows relations.now role.now) (over role.now row.now) columns.now places.now terms.now row.now) }
 {
     let values = row.to_vec(alloc)?;
     let nothing = Scoped::Nothing;
@@ -264,7 +258,7 @@ pub fn new_version<'a, 'c, S: RowSource<'c>>(
     };
     row_written(
         alloc,
-        source,
+        catalog,
         &*relations,
         &env,
         columns,

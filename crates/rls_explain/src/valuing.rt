@@ -5,10 +5,10 @@ ghost use Rattle.rls_meaning.specs.rls_guard.specs.rls_evaluation.specs.{Environ
 ghost use Rattle.rls_explain.specs.Found.{value_found};
 
 use rls_expr::Expr;
+use rls_meaning::rls_guard::rls_catalog::Catalog;
 use rls_meaning::rls_guard::rls_evaluation::{
     Env, ExecutionState, Looked, Scoped, SecuredRelation, Tables, VisibleRelations, eval,
 };
-use rls_meaning::rls_guard::rls_source::RowSource;
 use rls_value::{Name, Row, Value};
 use std::alloc::{AllocError, Global};
 
@@ -21,17 +21,17 @@ pub struct Judged<'a, 'c> {
 }
 
 /// The value of the expression.
-fn value_in<'s, 'a, 'c, S: RowSource<'c>>(
+fn value_in<'a, 'c>(
     alloc: Global,
-    source: &'s S,
+    catalog: &'c Catalog,
     relations: &'a [SecuredRelation<'c>],
     env: &Env<'a>,
     expr: &'a Expr,
 ) -> Result<Value, AllocError>
-    ensures { IfOk result (λ value. value ≡ value_found (S.state source.now) (shows relations.now env.now.user.now) (env_of env.now) expr.now) }
+    ensures { IfOk result (λ value. value ≡ value_found catalog.now (shows relations.now env.now.user.now) (env_of env.now) expr.now) }
 {
     let mut execution = ExecutionState::new(alloc);
-    let mut tables: Looked<'s, 'c, S> = Looked::new(source);
+    let mut tables = Looked::new(catalog);
     let value = value_over(alloc, &mut tables, &mut execution, relations, env, expr);
     drop(execution);
     value
@@ -56,31 +56,31 @@ pub fn value_over<'a, 'c, T: Tables>(
 }
 
 /// The value of a part on the row that is judged.
-pub fn value_on<'a, 'c, S: RowSource<'c>>(
+pub fn value_on<'a, 'c>(
     alloc: Global,
-    source: &S,
+    catalog: &'c Catalog,
     judged: Judged<'a, 'c>,
     expr: &Expr,
 ) -> Result<Value, AllocError>
-    ensures { IfOk result (λ value. value ≡ value_found (S.state source.now) (shows judged.entry.relations.now judged.entry.role.now) (over judged.entry.role.now judged.entry.row.now) expr.now) }
+    ensures { IfOk result (λ value. value ≡ value_found catalog.now (shows judged.entry.relations.now judged.entry.role.now) (over judged.entry.role.now judged.entry.row.now) expr.now) }
 {
     let nothing = Scoped::Nothing;
     let env = Env {
         user: judged.role,
         rows: Scoped::Over(judged.row, &nothing),
     };
-    value_in(alloc, source, judged.relations, &env, expr)
+    value_in(alloc, catalog, judged.relations, &env, expr)
 }
 
 /// The same with a further row in scope, the innermost.
-pub fn value_inside<'a, 'c, S: RowSource<'c>>(
+pub fn value_inside<'a, 'c>(
     alloc: Global,
-    source: &S,
+    catalog: &'c Catalog,
     judged: Judged<'a, 'c>,
     row: &Row,
     expr: &Expr,
 ) -> Result<Value, AllocError>
-    ensures { IfOk result (λ value. value ≡ value_found (S.state source.now) (shows judged.entry.relations.now judged.entry.role.now) (inside row.now (over judged.entry.role.now judged.entry.row.now)) expr.now) }
+    ensures { IfOk result (λ value. value ≡ value_found catalog.now (shows judged.entry.relations.now judged.entry.role.now) (inside row.now (over judged.entry.role.now judged.entry.row.now)) expr.now) }
 {
     let nothing = Scoped::Nothing;
     let outer = Scoped::Over(judged.row, &nothing);
@@ -89,5 +89,5 @@ pub fn value_inside<'a, 'c, S: RowSource<'c>>(
         user: judged.role,
         rows,
     };
-    value_in(alloc, source, judged.relations, &env, expr)
+    value_in(alloc, catalog, judged.relations, &env, expr)
 }

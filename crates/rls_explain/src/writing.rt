@@ -7,17 +7,17 @@ ghost use Rattle.rls_meaning.specs.rls_dml.specs.Writing.{given_to as spec_given
 ghost use Rattle.rls_explain.specs.Found as spec;
 
 use rls_expr::{Column, Expr};
+use rls_meaning::rls_guard::rls_catalog::Catalog;
 use rls_meaning::rls_guard::rls_evaluation::{
     Datum, Env, ExecutionState, Looked, SecuredRelation, Tables, VisibleRelations, eval,
 };
-use rls_meaning::rls_guard::rls_source::RowSource;
 use rls_value::{Refusal, Row, Value};
 use std::alloc::Global;
 
 /// The row with the values of the expressions in the columns at the places, each in its column's range.
-pub fn row_written<'s, 'a, 'c, S: RowSource<'c>>(
+pub fn row_written<'a, 'c>(
     alloc: Global,
-    source: &'s S,
+    catalog: &'c Catalog,
     relations: &'a [SecuredRelation<'c>],
     env: &Env<'a>,
     columns: &[Column],
@@ -25,10 +25,10 @@ pub fn row_written<'s, 'a, 'c, S: RowSource<'c>>(
     terms: &'a [Expr],
     row: Vec<Value>,
 ) -> Result<Row, Refusal>
-    ensures { Gives result (spec.row_written (S.state source.now) (shows relations.now env.now.user.now) (env_of env.now) columns.now places.now terms.now row.items) }
+    ensures { Gives result (spec.row_written catalog.now (shows relations.now env.now.user.now) (env_of env.now) columns.now places.now terms.now row.items) }
 {
     let mut execution = ExecutionState::new(alloc);
-    let mut tables: Looked<'s, 'c, S> = Looked::new(source);
+    let mut tables = Looked::new(catalog);
     let written = write_row(
         alloc,
         &mut tables,

@@ -13,9 +13,9 @@ use crate::grantors::{Grantor, grantors_of};
 use crate::known::{are_known, known, looked_over};
 use crate::placing::put_grants;
 use crate::tracing::holds_option_without;
-use rls_role::rls_source::{Reads, RowSource, noted_grants, require_grantees, table_named};
+use rls_role::rls_source::Asker;
 use rls_role::rls_statement::GrantPrivileges;
-use rls_role::{EffectiveRoles, noted_effective_roles};
+use rls_role::{EffectiveRoles, effective_roles_of};
 use rls_value::{GrantFault, Items, Name, Privilege, Refusal};
 use rls_verdict::rls_catalog::{Change, Delta, Grant, Grants};
 use rls_verdict::rls_expr::{Column, Grantee, TableDef};
@@ -26,51 +26,41 @@ use std::alloc::{AllocError, Global};
 /// nobody may grant for the role; and, WITH GRANT OPTION, PUBLIC, or a grantee whose own option the grantor's stands on. In
 /// every state that agrees on what is read it is the same.
 #[tactic(auto, using(crate::proofs::GrantLaws::goes_back_is))]
-pub fn grant<'c, S: RowSource<'c>>(
-    alloc: Global,
-    source: &mut S,
-    read_set: &mut Reads,
-    role: &Name,
-    grant: &GrantPrivileges,
-) -> Result<Delta, Refusal>
-    ensures answers { Answers S.state S.after (spec.grant role.now grant.now) source.old source.new read_set.old read_set.new result }
+pub fn grant(asker: &mut Asker, role: &Name, grant: &GrantPrivileges) -> Result<Delta, Refusal>
+    ensures answers { Answers (spec.grant role.now grant.now) asker.old asker.new result }
     ensures back { (owner : List ℕ) (grants : List Given) (privilege : Kind) (grantor grantee : List ℕ) → (goes_back owner grants privilege grantor grantee ≡ true) ↔ GoesBack owner grants privilege grantor grantee }
 {
-    let table = table_named(alloc, source, read_set, &grant.table)?;
+    let table = asker.table_named(&grant.table)?;
     require_columns(table, &grant.privileges)?;
-    grant_named(alloc, source, read_set, role, table, grant)
+    grant_named(asker, role, table, grant)
 }
 
 #[tactic(auto, unfolding(crate::specs::Granting::grant_to))]
-fn grant_named<'c, S: RowSource<'c>>(
-    alloc: Global,
-    source: &mut S,
-    read_set: &mut Reads,
+fn grant_named(
+    asker: &mut Asker,
     role: &Name,
     table: &TableDef,
     grant: &GrantPrivileges,
 ) -> Result<Delta, Refusal>
-    ensures { Answers S.state S.after (grant_to role.now table.now grant.now) source.old source.new read_set.old read_set.new result }
+    ensures { Answers (grant_to role.now table.now grant.now) asker.old asker.new result }
 {
-    require_grantees(alloc, source, read_set, grant.to.as_slice())?;
+    asker.require_grantees(grant.to.as_slice())?;
     require_whole(grant.with_option, &grant.privileges)?;
-    grant_for(alloc, source, read_set, role, table, grant)
+    grant_for(asker, role, table, grant)
 }
 
 #[tactic(auto, unfolding(crate::specs::Granting::grant_on))]
-fn grant_for<'c, S: RowSource<'c>>(
-    alloc: Global,
-    source: &mut S,
-    read_set: &mut Reads,
+fn grant_for(
+    asker: &mut Asker,
     role: &Name,
     table: &TableDef,
     grant: &GrantPrivileges,
 ) -> Result<Delta, Refusal>
-    ensures { Answers S.state S.after (grant_on role.now table.now grant.now) source.old source.new read_set.old read_set.new result }
+    ensures { Answers (grant_on role.now table.now grant.now) asker.old asker.new result }
 {
-    let grants = noted_grants(alloc, source, read_set, &grant.table)?;
-    let effective_roles = noted_effective_roles(alloc, source, read_set, role)?;
-    let made = make_grants(alloc, &effective_roles, role, table, grants, grant);
+    let grants = asker.grants(&grant.table)?;
+    let effective_roles = effective_roles_of(asker, role)?;
+    let made = make_grants(asker.alloc(), &effective_roles, role, table, grants, grant);
     drop(effective_roles);
     made
 }

@@ -8,8 +8,8 @@ ghost use Rattle.rls_grant.specs.GrantedTo as grants_to;
 ghost use Rattle.rls_verdict.specs.rls_catalog.specs.State.{State, AgreesOn};
 
 use crate::granted::has_whole;
-use rls_role::rls_source::RowSource;
-use rls_role::{EffectiveRoles, effective_roles_of};
+use rls_role::rls_source::{Reading, RowSource};
+use rls_role::{EffectiveRoles, effective_roles_over};
 use rls_value::{Name, Privilege};
 use rls_verdict::rls_catalog::Grants;
 use rls_verdict::rls_expr::Grantee;
@@ -31,7 +31,7 @@ pub fn holds<'c, S: RowSource<'c>>(
     ensures read { OnOk result (source.new ≡ S.after source.old (holds_reads (S.state source.old) role.now table.now)) }
     ensures state { S.state source.new ≡ S.state source.old }
 {
-    let effective_roles = effective_roles_of(alloc, source, role)?;
+    let effective_roles = effective_roles_over(alloc, source, role)?;
     if effective_roles.superuser {
         return Ok(true);
     }

@@ -11,8 +11,8 @@ ghost use Rattle.rls_grant.specs.Missing.{column_on, columns_on, missing_beside,
 
 use crate::granted::is_same_privilege;
 use crate::holding::is_granted;
-use rls_role::rls_source::RowSource;
-use rls_role::{EffectiveRoles, effective_roles_of};
+use rls_role::rls_source::{Reading, RowSource};
+use rls_role::{EffectiveRoles, effective_roles_over};
 use rls_value::{Items, Name, Privilege, Reference, Why};
 use rls_verdict::rls_catalog::{Grant, Grants};
 use std::alloc::{AllocError, Global};
@@ -35,7 +35,7 @@ pub fn missing<'c, S: RowSource<'c>>(
     ensures read { OnOk result (source.new ≡ S.after source.old (holds_reads (S.state source.old) role.now table.now)) }
     ensures state { S.state source.new ≡ S.state source.old }
 {
-    let effective_roles = effective_roles_of(alloc, source, role)?;
+    let effective_roles = effective_roles_over(alloc, source, role)?;
     if effective_roles.superuser {
         return Ok(None);
     }

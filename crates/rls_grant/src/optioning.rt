@@ -9,7 +9,7 @@ ghost use Rattle.rls_grant.specs.{Handed.HandsOn, Handed.under, Optioned.AreHold
 ghost use Rattle.rls_grant.specs.Handed as handed;
 
 use crate::granted::is_same_privilege;
-use rls_role::rls_source::RowSource;
+use rls_role::rls_source::{Reading, RowSource};
 use rls_value::{Items, Name, Privilege};
 use rls_verdict::rls_catalog::{Grant, Grants};
 use rls_verdict::rls_expr::{Grantee, TableDef};

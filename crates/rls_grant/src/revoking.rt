@@ -15,9 +15,9 @@ use crate::grantors::{Grantor, grantors_of};
 use crate::known::{known, looked_over};
 use crate::optioning::options;
 use crate::placing::{remove_grant, revoke_option};
-use rls_role::rls_source::{Reads, RowSource, noted_grants, require_grantees, table_named};
+use rls_role::rls_source::Asker;
 use rls_role::rls_statement::RevokePrivileges;
-use rls_role::{EffectiveRoles, noted_effective_roles};
+use rls_role::{EffectiveRoles, effective_roles_of};
 use rls_value::{Name, Privilege, Refusal};
 use rls_verdict::rls_catalog::shared_map::Values;
 use rls_verdict::rls_catalog::{Delta, Grant, GrantKey, Grants};
@@ -31,52 +31,42 @@ use std::collections::BTreeSet;
 /// for the role; and, without CASCADE, what leaves a grant whose grantor doesn't hold the grant option any more. In every
 /// state that agrees on what is read it is the same.
 #[tactic(auto, using(crate::proofs::GrantLaws::left_is, crate::proofs::GrantLaws::dependents_are))]
-pub fn revoke<'c, S: RowSource<'c>>(
-    alloc: Global,
-    source: &mut S,
-    read_set: &mut Reads,
-    role: &Name,
-    revoke: &RevokePrivileges,
-) -> Result<Delta, Refusal>
-    ensures answers { Answers S.state S.after (spec.revoke role.now revoke.now) source.old source.new read_set.old read_set.new result }
+pub fn revoke(asker: &mut Asker, role: &Name, revoke: &RevokePrivileges) -> Result<Delta, Refusal>
+    ensures answers { Answers (spec.revoke role.now revoke.now) asker.old asker.new result }
     ensures left { (owner : List ℕ) (grants : List Given) (privilege : Kind) → LeftAfterRevoke owner grants privilege (filter (spec.stays (one_of (holders_of owner grants privilege)) privilege) grants) }
     ensures dependents { (owner : List ℕ) (grants : List Given) (privilege : Kind) → (list_any (λ grant. not (spec.stays (one_of (holders_of owner grants privilege)) privilege grant)) grants ≡ true) ↔ HasDependents owner grants privilege }
 {
-    let table = table_named(alloc, source, read_set, &revoke.table)?;
+    let table = asker.table_named(&revoke.table)?;
     require_columns(table, &revoke.privileges)?;
-    revoke_named(alloc, source, read_set, role, table, revoke)
+    revoke_named(asker, role, table, revoke)
 }
 
 #[tactic(auto, unfolding(crate::specs::Revoking::revoke_from))]
-fn revoke_named<'c, S: RowSource<'c>>(
-    alloc: Global,
-    source: &mut S,
-    read_set: &mut Reads,
+fn revoke_named(
+    asker: &mut Asker,
     role: &Name,
     table: &TableDef,
     revoke: &RevokePrivileges,
 ) -> Result<Delta, Refusal>
-    ensures { Answers S.state S.after (revoke_from role.now table.now revoke.now) source.old source.new read_set.old read_set.new result }
+    ensures { Answers (revoke_from role.now table.now revoke.now) asker.old asker.new result }
 {
-    require_grantees(alloc, source, read_set, revoke.from.as_slice())?;
+    asker.require_grantees(revoke.from.as_slice())?;
     require_whole(revoke.option_only, &revoke.privileges)?;
-    revoke_for(alloc, source, read_set, role, table, revoke)
+    revoke_for(asker, role, table, revoke)
 }
 
 #[tactic(auto, unfolding(crate::specs::Revoking::revoke_on))]
-fn revoke_for<'c, S: RowSource<'c>>(
-    alloc: Global,
-    source: &mut S,
-    read_set: &mut Reads,
+fn revoke_for(
+    asker: &mut Asker,
     role: &Name,
     table: &TableDef,
     revoke: &RevokePrivileges,
 ) -> Result<Delta, Refusal>
-    ensures { Answers S.state S.after (revoke_on role.now table.now revoke.now) source.old source.new read_set.old read_set.new result }
+    ensures { Answers (revoke_on role.now table.now revoke.now) asker.old asker.new result }
 {
-    let grants = noted_grants(alloc, source, read_set, &revoke.table)?;
-    let effective_roles = noted_effective_roles(alloc, source, read_set, role)?;
-    let left = leave_grants(alloc, &effective_roles, role, table, grants, revoke);
+    let grants = asker.grants(&revoke.table)?;
+    let effective_roles = effective_roles_of(asker, role)?;
+    let left = leave_grants(asker.alloc(), &effective_roles, role, table, grants, revoke);
     drop(effective_roles);
     left
 }

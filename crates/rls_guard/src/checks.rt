@@ -8,20 +8,13 @@ ghost use Rattle.rls_guard.specs.Checks.{superuser_or_denied};
 use crate::support::is_unsupported_with;
 use rls_evaluation::rls_catalog::rls_expr::rls_value::{Name, Refusal, Why};
 use rls_evaluation::rls_catalog::rls_expr::{Expr, has_query, has_sum};
-use rls_evaluation::rls_source::{Reads, RowSource, noted_role};
-use std::alloc::Global;
+use rls_evaluation::rls_source::Asker;
 
 /// Denied where the role is no superuser.
-pub fn require_superuser<'c, S: RowSource<'c>>(
-    alloc: Global,
-    source: &mut S,
-    read_set: &mut Reads,
-    role: &Name,
-    managed: &Name,
-) -> Result<(), Refusal>
-    ensures { Answers S.state S.after (superuser_or_denied role.now managed.now) source.old source.new read_set.old read_set.new result }
+pub fn require_superuser(asker: &mut Asker, role: &Name, managed: &Name) -> Result<(), Refusal>
+    ensures { Answers (superuser_or_denied role.now managed.now) asker.old asker.new result }
 {
-    match noted_role(alloc, source, read_set, role)? {
+    match asker.role(role)? {
         Some(def) if def.superuser => Ok(()),
         _ => Err(Refusal::Denied(Why::Admin(managed.copy()?))),
     }

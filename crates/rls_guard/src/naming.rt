@@ -12,7 +12,7 @@ use rls_evaluation::rls_catalog::rls_expr::rls_value::{Items, Name, NameKind, Re
 use rls_evaluation::rls_catalog::rls_expr::{
     ColumnName, FromItem, NameStep, NamedTable, TableDef, Var, unqualified, var_of,
 };
-use rls_evaluation::rls_source::{Reads, RowSource, table_named};
+use rls_evaluation::rls_source::Asker;
 use std::alloc::{AllocError, Global};
 
 /// The tables that subqueries name, with their definitions.
@@ -20,19 +20,17 @@ pub type Found<'c> = Items<NamedTable<'c>>;
 
 /// Looks for each name, in text order: the columns among the tables in scope, the innermost first, the tables of
 /// subqueries in the source. The first that isn't there is undefined. The tables found are put behind those found before.
-pub fn named<'c, S: RowSource<'c>>(
-    alloc: Global,
-    source: &mut S,
-    read_set: &mut Reads,
+pub fn named<'c>(
+    asker: &mut Asker<'c>,
     steps: &[NameStep],
     tables: Vec<NamedTable<'c>>,
     found: Found<'c>,
 ) -> Result<Found<'c>, Refusal>
-    ensures { Answers S.state S.after (spec.named (map step_of steps.now) tables.entry.items found.entry) source.old source.new read_set.old read_set.new result }
+    ensures { Answers (spec.named (map step_of steps.now) tables.entry.items found.entry) asker.old asker.new result }
 {
     let mut found = found;
     let mut tables = tables;
-    let looked = look_for(alloc, source, read_set, steps, &mut tables, &mut found);
+    let looked = look_for(asker, steps, &mut tables, &mut found);
     drop(tables);
     match looked {
         Ok(()) => Ok(found),
@@ -44,22 +42,20 @@ pub fn named<'c, S: RowSource<'c>>(
 }
 
 /// The same, over the tables in scope and those found, which it changes.
-fn look_for<'c, S: RowSource<'c>>(
-    alloc: Global,
-    source: &mut S,
-    read_set: &mut Reads,
+fn look_for<'c>(
+    asker: &mut Asker<'c>,
     steps: &[NameStep],
     tables: &mut Vec<NamedTable<'c>>,
     found: &mut Found<'c>,
 ) -> Result<(), Refusal>
-    ensures { Answers S.state S.after (spec.named (map step_of steps.now) tables.old.items found.old) source.old source.new read_set.old read_set.new (and_then result (λ _. Ok found.new)) }
+    ensures { Answers (spec.named (map step_of steps.now) tables.old.items found.old) asker.old asker.new (and_then result (λ _. Ok found.new)) }
 {
     for step in steps {
         match step {
             NameStep::Column(name) => require_column(tables, name)?,
             NameStep::Target(name) => require_target(tables, name)?,
             NameStep::Begin(from) => {
-                let table = table_named(alloc, source, read_set, &from.table)?;
+                let table = asker.table_named(&from.table)?;
                 enter(tables, found, from, table)?;
             }
             NameStep::End => leave(tables),
@@ -132,18 +128,17 @@ fn leave(tables: &mut Vec<NamedTable>)
 }
 
 /// The same over one table.
-pub fn named_over<'c, S: RowSource<'c>>(
-    alloc: Global,
-    source: &mut S,
-    read_set: &mut Reads,
+pub fn named_over<'c>(
+    asker: &mut Asker<'c>,
     steps: &[NameStep],
     name: &Name,
     table: &'c TableDef,
 ) -> Result<Found<'c>, Refusal>
-    ensures { Answers S.state S.after (spec.named (map step_of steps.now) ((name.now, table.now) ∷ []) []) source.old source.new read_set.old read_set.new result }
+    ensures { Answers (spec.named (map step_of steps.now) ((name.now, table.now) ∷ []) []) asker.old asker.new result }
 {
+    let alloc = asker.alloc();
     let tables = one_table(alloc, name, table)?;
-    named(alloc, source, read_set, steps, tables, Items::new(alloc))
+    named(asker, steps, tables, Items::new(alloc))
 }
 
 fn one_table<'c>(

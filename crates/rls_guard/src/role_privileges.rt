@@ -11,10 +11,10 @@ use crate::permission_check::PermissionCheck;
 use rls_evaluation::rls_catalog::rls_expr::TableDef;
 use rls_evaluation::rls_catalog::rls_expr::rls_value::{Name, Refusal, Why};
 use rls_evaluation::rls_catalog::{Grants, RoleDef};
-use rls_evaluation::rls_source::{Reads, RowSource, noted_grants, noted_role};
+use rls_evaluation::rls_source::Asker;
 use rls_grant::missing_in;
 use rls_policy::exempt;
-use rls_policy::rls_role::{EffectiveRoles, noted_effective_roles};
+use rls_policy::rls_role::{EffectiveRoles, effective_roles_of};
 use std::alloc::{AllocError, Global};
 
 /// The current role, as its attributes and its memberships make it.
@@ -26,16 +26,11 @@ pub struct RolePrivileges {
 
 /// The role's privileges. It reads the role and, unless that is a superuser, each role whose privileges it has.
 #[tactic(auto, unfolding(crate::specs::PassedOn::role_at, crate::specs::PassedOn::effective_roles_in, crate::specs::PassedOn::effective_roles_reads_in, crate::specs::RolePrivileges::role_privileges_in, crate::specs::RolePrivileges::role_privileges_reads))]
-pub fn role_privileges_of<'c, S: RowSource<'c>>(
-    alloc: Global,
-    source: &mut S,
-    read_set: &mut Reads,
-    role: &Name,
-) -> Result<RolePrivileges, AllocError>
-    ensures { Tells S.state S.after (spec.role_privileges_of role.now) source.old source.new read_set.old read_set.new result }
+pub fn role_privileges_of(asker: &mut Asker, role: &Name) -> Result<RolePrivileges, AllocError>
+    ensures { Tells (spec.role_privileges_of role.now) asker.old asker.new result }
 {
-    let attributes = RoleDef::known(noted_role(alloc, source, read_set, role)?);
-    let effective_roles = noted_effective_roles(alloc, source, read_set, role)?;
+    let attributes = RoleDef::known(asker.role(role)?);
+    let effective_roles = effective_roles_of(asker, role)?;
     Ok(RolePrivileges {
         attributes,
         effective_roles,
@@ -44,17 +39,15 @@ pub fn role_privileges_of<'c, S: RowSource<'c>>(
 
 /// Denied where the role hasn't the privileges of the table's owner.
 #[tactic(auto, unfolding(crate::specs::RolePrivileges::ownership))]
-pub fn require_ownership<'c, S: RowSource<'c>>(
-    alloc: Global,
-    source: &mut S,
-    read_set: &mut Reads,
+pub fn require_ownership(
+    asker: &mut Asker,
     role: &Name,
     name: &Name,
     table: &TableDef,
 ) -> Result<(), Refusal>
-    ensures { Answers S.state S.after (spec.ownership role.now name.now table.now) source.old source.new read_set.old read_set.new result }
+    ensures { Answers (spec.ownership role.now name.now table.now) asker.old asker.new result }
 {
-    let role_privileges = role_privileges_of(alloc, source, read_set, role)?;
+    let role_privileges = role_privileges_of(asker, role)?;
     let owned = role_privileges.require_owner(name, table);
     drop(role_privileges);
     owned
@@ -62,20 +55,18 @@ pub fn require_ownership<'c, S: RowSource<'c>>(
 
 impl RolePrivileges {
     /// Denied where the role lacks the privilege for some of the columns. It reads the grants, unless the role is a superuser.
-    pub fn require_permission<'c, S: RowSource<'c>>(
+    pub fn require_permission(
         &self,
-        alloc: Global,
-        source: &mut S,
-        read_set: &mut Reads,
+        asker: &mut Asker,
         check: &PermissionCheck,
     ) -> Result<(), Refusal>
-        ensures { Answers S.state S.after (spec.permission_or_denied self.now check.now) source.old source.new read_set.old read_set.new result }
+        ensures { Answers (spec.permission_or_denied self.now check.now) asker.old asker.new result }
     {
         if self.effective_roles.superuser {
             return Ok(());
         }
-        let grants = noted_grants(alloc, source, read_set, &check.table)?;
-        self.require_granted(alloc, grants, check)
+        let grants = asker.grants(&check.table)?;
+        self.require_granted(asker.alloc(), grants, check)
     }
 
     /// Denied where these grants lack the privilege for some of the columns.

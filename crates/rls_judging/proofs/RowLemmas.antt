@@ -1,14 +1,14 @@
 -- What is told of rows, one after another.
-use Rattle.std.specs.{Borrow.Bor, declared.alloc.AllocError.AllocError}
-use Rattle.std.specs.Prelude.{◌≡◌, refl, ℕ, List, [], ◌∷◌, ◌++◌, Bool, true, false, ◌&&◌, Result, Ok, Err, OnOk, map, drop, length, get_or, ◌<◌, ◌≤◌, ◌+◌}
+use Rattle.std.specs.{declared.alloc.AllocError.AllocError}
+use Rattle.std.specs.Prelude.{◌≡◌, refl, ℕ, List, [], ◌∷◌, ◌++◌, Bool, true, false, ◌&&◌, Result, Ok, Err, map, drop, length, get_or, ◌<◌, ◌≤◌, ◌+◌}
 use Rattle.std.proofs.Common.{ap, arith, sym, ◌∙◌, subst, append-nil, append_assoc}
 use Rattle.std.proofs.lemmas.Bool.{true≢false}
 use Rattle.rls_value.specs.{declared.refusal.Refusal.Refusal, declared.row.RowId.RowId, declared.object.Object.Object, declared.value.Value.Value, Giving.and_then}
 use Rattle.rls_guard.specs.rls_catalog.specs.rls_expr.specs.Terms.{Terms}
 use Rattle.rls_guard.specs.rls_catalog.specs.{State.State, declared.stored.Stored.Stored, declared.verdict.Verdict.Verdict}
-use Rattle.rls_evaluation.specs.rls_source.specs.{Footprints.with_reads, Footprints.footprint_of, Footprints.IsInOrder, Readings.unread, Readings.next_reads, Once.each_once, Answering.Tells as Reading, Askings.Asking, Askings.known, Askings.followed_by}
+use Rattle.rls_evaluation.specs.rls_source.specs.{Footprints.with_reads, Footprints.IsInOrder, Readings.unread, Readings.next_reads, Askings.Asking, Askings.known, Askings.followed_by}
 use Rattle.rls_evaluation.specs.{Eval.Shows, Showing.allows, Showing.verdict_on, Gathering.gathered, Holding.Evaluates}
-use Rattle.rls_evaluation.proofs.Telling.{Leads, turn, tells_then, tells_map, tells_known, leads_whole, leads_map, drop_at}
+use Rattle.rls_evaluation.proofs.Telling.{Leads, turn, tells_then, tells_map, tells_known, drop_at}
 use Rattle.rls_evaluation.proofs.Absorbing.{noted_absorbed}
 use Rattle.rls_guard.specs.{declared.quals.RowCheck.RowCheck, declared.reply.Decision.Decision}
 use Rattle.rls_judging.specs.{Alike.decided_by, Judging.decision_by, Judging.decisions_on, Judging.are_allowed, Judging.qualifies_if, Judging.judged_old, Judging.row_if_qualifying, Judging.with_judged, Handed.beside, Handed.allowing, Handed.behind}
@@ -151,16 +151,3 @@ mapped_turn whole join next put none ask f xs i x y now mid after old read_set n
 -- one element more of a list
 pub one_more : {A : Type 0} (xs next rest : List A) (x : A) → next ≡ xs ++ x ∷ [] → next ++ rest ≡ xs ++ x ∷ rest
 one_more xs next rest x added = ap (λ n. n ++ rest) added ∙ append_assoc xs (x ∷ []) rest
-
--- ---- what is read is read once
-
--- the whole of a phase: what was looked at is marked and in the read set
-pub once_told : {S A E : Type 0} (stands : S → State) (after : S → List Object → S) (asking : Asking A) (before now : S) (seen : State) (read_set old new : List Object) (a : A)
-    → Evaluates asking (stands before) seen [] read_set (Ok a) → new ≡ old ++ read_set → now ≡ after before read_set → stands now ≡ stands before
-    → Reading {E = E} stands after (each_once asking) before now old new (Ok a)
-once_told stands after asking before now seen read_set old new a told noted read state = record {
-  given = told.given;
-  noted = noted ∙ ap (λ n. old ++ n) told.noted;
-  read = read ∙ ap (after before) told.noted;
-  state = state;
-}

@@ -1,16 +1,13 @@
 -- What the code is handed, as the definitions have it.
 use Rattle.std.specs.Borrow.{Bor}
-use Rattle.std.specs.Prelude.{List, [], ◌∷◌, ◌++◌, Bool, Result, Ok, Err, map, true, false}
+use Rattle.std.specs.Prelude.{List, ◌++◌, Bool, Result, Ok, Err, map}
 use Rattle.std.specs.declared.vec.Vec.{Vec}
 use Rattle.std.proofs.Common.{Global}
-use Rattle.std.specs.declared.alloc.AllocError.{AllocError}
-use Rattle.rls_value.specs.{declared.object.Object.Object, declared.value.Value.Value}
-use Rattle.rls_guard.specs.rls_catalog.specs.{State.State, declared.stored.Stored.Stored}
-use Rattle.rls_evaluation.specs.{Holding.Evaluates, declared.datum.Datum.Datum, Eval.Shows, Scoping.datum_value}
-use Rattle.rls_guard.specs.rls_catalog.specs.rls_expr.specs.Terms.{Terms}
-use Rattle.rls_evaluation.specs.rls_source.specs.Askings.{Asking, known, followed_by}
-use Rattle.rls_guard.specs.{declared.quals.RowCheck.RowCheck, declared.reply.Decision.Decision}
-use Rattle.rls_judging.specs.Judging.{decisions_on, judged_old, are_allowed}
+use Rattle.rls_value.specs.{declared.value.Value.Value}
+use Rattle.rls_guard.specs.rls_catalog.specs.{declared.stored.Stored.Stored}
+use Rattle.rls_evaluation.specs.{declared.datum.Datum.Datum, Scoping.datum_value}
+use Rattle.rls_guard.specs.{declared.reply.Decision.Decision}
+use Rattle.rls_judging.specs.Judging.{are_allowed}
 
 -- what a call leaves behind, beside what it gives
 abbrev pub beside : {A B E : Type 0} → A → Result B E → Result (A × B) E
@@ -52,7 +49,3 @@ datum_values_all (Err refused) = Err refused
 abbrev pub datum_values_each : {E : Type 0} → Result (Vec (Vec Datum Global) Global) E → Result (List (List Value)) E
 datum_values_each (Ok datum) = Ok (map datum_values datum.items)
 datum_values_each (Err refused) = Err refused
-
--- what is asked is told, and what is read for it is added to the read set, while the source is looked at
-abbrev pub EvaluatesAt : {A : Type 0} → Asking A → State → List Object → List Object → Result A AllocError → Type 0
-EvaluatesAt asking s old new result = (after : State) × Evaluates asking s after old new result

@@ -1,12 +1,13 @@
 //! What rows are seen through.
 
-ghost use Rattle.std.specs.Prelude.{◌≡◌, ◌++◌, OnOk};
+ghost use Rattle.std.specs.Prelude.{◌≡◌, OnOk};
+ghost use Rattle.rls_evaluation.specs.rls_source.specs.Answering.{having_read};
 
-use rls_evaluation::rls_source::{Reads, RowSource};
+use rls_evaluation::rls_source::Asker;
 use rls_evaluation::{ExecutionState, SecuredRelation};
 use rls_guard::RowCheck;
 use rls_value::Name;
-use std::alloc::{AllocError, Global};
+use std::alloc::AllocError;
 
 /// What a statement's rows are judged by: the row checks, the relations that subqueries look through, and the role.
 #[derive(Clone, Copy)]
@@ -16,18 +17,10 @@ pub struct CheckContext<'a, 'c> {
     pub role: &'a Name,
 }
 
-/// Adds what was read to the read set, and marks it.
-pub(crate) fn mark_all<'c, S: RowSource<'c>>(
-    alloc: Global,
-    source: &mut S,
-    read_set: &mut Reads,
-    execution: ExecutionState,
-) -> Result<(), AllocError>
-    ensures noted { OnOk result (read_set.new ≡ read_set.old ++ execution.read_set) }
-    ensures read { OnOk result (source.new ≡ S.after source.old execution.read_set) }
-    ensures state { S.state source.new ≡ S.state source.old }
+/// Notes what was read.
+pub(crate) fn note_all(asker: &mut Asker, execution: ExecutionState) -> Result<(), AllocError>
+    ensures { OnOk result (asker.new ≡ having_read asker.old execution.read_set) }
 {
-    let objects = execution.into_read_set().into_objects(alloc)?;
-    source.mark(alloc, &objects)?;
-    read_set.note_all(objects)
+    let objects = execution.into_read_set().into_objects(asker.alloc())?;
+    asker.note_all(objects)
 }

@@ -4,13 +4,13 @@ ghost use Rattle.std.specs.Prelude.{◌≡◌, [], ◌∷◌, ◌++◌, ◌&&◌
 ghost use Rattle.rls_guard.specs.rls_catalog.specs.rls_expr.specs.Terms.{maybe_term};
 ghost use Rattle.rls_evaluation.specs.rls_source.specs.{Answering.Tells as Reading, Askings.followed_by, Askings.known};
 ghost use Rattle.rls_evaluation.specs.{Holding.Holds, Holding.Evaluates, Showing.shows};
-ghost use Rattle.rls_judging.specs.Handed.{EvaluatesAt, allowing, behind, beside, items_now, judged_now, rows_borrowed};
+ghost use Rattle.rls_judging.specs.Handed.{allowing, behind, beside, items_now, judged_now, rows_borrowed};
 ghost use Rattle.rls_judging.specs.Alike.{AreAlike};
 ghost use Rattle.rls_judging.specs.Judging as spec;
 
 use crate::alike::{are_alike, put_both};
-use crate::check_context::{CheckContext, mark_all};
-use rls_evaluation::rls_source::{Reads, RowSource};
+use crate::check_context::{CheckContext, note_all};
+use rls_evaluation::rls_source::Asker;
 use rls_evaluation::{
     Env, ExecutionState, Looked, Scoped, SecurityQuals, Tables, VisibleRelations, allows,
     meets_condition, verdict_on,
@@ -18,100 +18,54 @@ use rls_evaluation::{
 use rls_guard::rls_catalog::rls_expr::Expr;
 use rls_guard::rls_catalog::{BorrowedRow, Stored};
 use rls_guard::{Decision, Judgement, RowCheck};
-use rls_value::{Row, RowId};
+use rls_value::{Row, RowId, or_drop};
 use std::alloc::{AllocError, Global};
 
 /// Judges each scanned row as it stands, and gives the decisions and those that are allowed and meet the condition. The
 /// decisions have room for so many more on each.
-pub fn qualifying_rows_of<'a, 'c, S: RowSource<'c>>(
-    alloc: Global,
-    source: &mut S,
-    read_set: &mut Reads,
+pub fn qualifying_rows_of<'a, 'c>(
+    asker: &mut Asker<'c>,
     check_context: CheckContext<'a, 'c>,
     condition: &'a Option<Expr>,
     scanned_rows: &'a [BorrowedRow<'c>],
     further: usize,
 ) -> Result<(Vec<Decision>, Vec<&'a BorrowedRow<'c>>), AllocError>
-    ensures { Reading S.state S.after (spec.qualifying_rows_of check_context.entry.row_checks.now check_context.entry.relations.now check_context.entry.role.now condition.now scanned_rows.now) source.old source.new read_set.old read_set.new (judged_now result) }
+    ensures { Reading (spec.qualifying_rows_of check_context.entry.row_checks.now check_context.entry.relations.now check_context.entry.role.now condition.now scanned_rows.now) asker.old asker.new (judged_now result) }
 {
-    let mut execution = ExecutionState::new(alloc);
-    let found = judge_over(
-        alloc,
-        &*source,
+    let mut execution = ExecutionState::new(asker.alloc());
+    let mut tables = Looked::new(asker.catalog());
+    let found = judge_all(
+        asker.alloc(),
+        &mut tables,
         &mut execution,
         check_context,
         condition,
         scanned_rows,
         further,
     )?;
-    match mark_all(alloc, source, read_set, execution) {
-        Ok(()) => Ok(found),
-        Err(refused) => {
-            drop(found);
-            Err(refused)
-        }
-    }
+    or_drop!(note_all(asker, execution), found);
+    Ok(found)
 }
 
 /// Judges each new row.
-pub fn judged<'a, 'c, S: RowSource<'c>>(
-    alloc: Global,
-    source: &mut S,
-    read_set: &mut Reads,
+pub fn judged<'a, 'c>(
+    asker: &mut Asker<'c>,
     check_context: CheckContext<'a, 'c>,
     rows: &'a [Stored],
 ) -> Result<Vec<Decision>, AllocError>
-    ensures { Reading S.state S.after (spec.decisions_of check_context.entry.row_checks.now check_context.entry.relations.now check_context.entry.role.now rows.now) source.old source.new read_set.old read_set.new (items_now result) }
+    ensures { Reading (spec.decisions_of check_context.entry.row_checks.now check_context.entry.relations.now check_context.entry.role.now rows.now) asker.old asker.new (items_now result) }
 {
-    let mut execution = ExecutionState::new(alloc);
-    let decisions = judge_new_over(alloc, &*source, &mut execution, check_context, rows)?;
-    match mark_all(alloc, source, read_set, execution) {
-        Ok(()) => Ok(decisions),
-        Err(refused) => {
-            drop(decisions);
-            Err(refused)
-        }
-    }
-}
-
-/// Judges each scanned row, while the source is looked at.
-fn judge_over<'s, 'a, 'c, S: RowSource<'c>>(
-    alloc: Global,
-    source: &'s S,
-    execution: &mut ExecutionState,
-    check_context: CheckContext<'a, 'c>,
-    condition: &'a Option<Expr>,
-    scanned_rows: &'a [BorrowedRow<'c>],
-    further: usize,
-) -> Result<(Vec<Decision>, Vec<&'a BorrowedRow<'c>>), AllocError>
-    requires { Holds check_context.relations.now check_context.role.now (S.state source.now) execution.old }
-    ensures { EvaluatesAt (spec.judged_all check_context.entry.row_checks.now check_context.entry.relations.now check_context.entry.role.now condition.now scanned_rows.now) (S.state source.now) execution.old.read_set execution.new.read_set (judged_now result) }
-{
-    let mut tables: Looked<'s, 'c, S> = Looked::new(source);
-    judge_all(
-        alloc,
+    let mut execution = ExecutionState::new(asker.alloc());
+    let mut tables = Looked::new(asker.catalog());
+    let decisions = judge_new(
+        asker.alloc(),
         &mut tables,
-        execution,
+        &mut execution,
         check_context,
-        condition,
-        scanned_rows,
-        further,
-    )
-}
-
-/// Judges each new row, while the source is looked at.
-fn judge_new_over<'a, 'c, S: RowSource<'c>>(
-    alloc: Global,
-    source: &S,
-    execution: &mut ExecutionState,
-    check_context: CheckContext<'a, 'c>,
-    rows: &'a [Stored],
-) -> Result<Vec<Decision>, AllocError>
-    requires { Holds check_context.relations.now check_context.role.now (S.state source.now) execution.old }
-    ensures { EvaluatesAt (spec.judged_new check_context.entry.row_checks.now check_context.entry.relations.now check_context.entry.role.now rows.now) (S.state source.now) execution.old.read_set execution.new.read_set (items_now result) }
-{
-    let mut tables = Looked::new(source);
-    judge_new(alloc, &mut tables, execution, check_context, rows)
+        rows,
+    )?;
+    or_drop!(note_all(asker, execution), decisions);
+    Ok(decisions)
 }
 
 /// Judges each scanned row. The buffer of judgements serves all rows.

@@ -6,7 +6,7 @@ ghost use Rattle.rls_value.specs.Values.{is_null};
 ghost use Rattle.rls_evaluation.specs.rls_source.specs.Answering.{Tells};
 ghost use Rattle.rls_judging.specs.ScannedRows as spec;
 
-use rls_evaluation::rls_source::{Reads, RowSource, noted_key, noted_scan};
+use rls_evaluation::rls_source::Asker;
 use rls_evaluation::{Env, Scoped, key_of};
 use rls_guard::rls_catalog::BorrowedRow;
 use rls_guard::rls_catalog::rls_expr::{Expr, FromTable};
@@ -15,38 +15,34 @@ use std::alloc::{AllocError, Global};
 
 /// The rows with the key, where the condition pins the table's whole primary key by literals and the current role; else
 /// all rows of the table. A key with a null is nobody's, and nothing is read for it.
-pub fn scanned_rows<'c, 'x, S: RowSource<'c>>(
-    alloc: Global,
-    source: &mut S,
-    read_set: &mut Reads,
+pub fn scanned_rows<'c, 'x>(
+    asker: &mut Asker<'c>,
     role: &Name,
     from: FromTable<'x>,
     condition: &Option<Expr>,
 ) -> Result<Items<BorrowedRow<'c>>, AllocError>
-    ensures { Tells S.state S.after (spec.scanned_rows role.now from.entry.name.now from.entry.table.now condition.now) source.old source.new read_set.old read_set.new result }
+    ensures { Tells (spec.scanned_rows role.now from.entry.name.now from.entry.table.now condition.now) asker.old asker.new result }
 {
-    let key = pinned_key(alloc, from.table.key.as_slice(), condition, role)?;
-    let found = scanned_rows_with(alloc, source, read_set, from.name, &key);
+    let key = pinned_key(asker.alloc(), from.table.key.as_slice(), condition, role)?;
+    let found = scanned_rows_with(asker, from.name, &key);
     drop(key);
     found
 }
 
-fn scanned_rows_with<'c, S: RowSource<'c>>(
-    alloc: Global,
-    source: &mut S,
-    read_set: &mut Reads,
+fn scanned_rows_with<'c>(
+    asker: &mut Asker<'c>,
     name: &Name,
     key: &Option<Row>,
 ) -> Result<Items<BorrowedRow<'c>>, AllocError>
-    ensures { Tells S.state S.after (spec.scanned_rows_with name.now key.now) source.old source.new read_set.old read_set.new result }
+    ensures { Tells (spec.scanned_rows_with name.now key.now) asker.old asker.new result }
 {
     match key {
-        None => noted_scan(alloc, source, read_set, name),
+        None => asker.scan(name),
         Some(key) => {
             if has_null(key) {
-                Ok(Items::new(alloc))
+                Ok(Items::new(asker.alloc()))
             } else {
-                noted_key(alloc, source, read_set, name, key)
+                asker.by_key(name, key)
             }
         }
     }

@@ -3,25 +3,24 @@
 ghost use Rattle.std.specs.Prelude.{◌≡◌, ◌++◌, [], Ok, OnOk, map};
 ghost use Rattle.rls_evaluation.specs.rls_source.specs.{Answering.Tells as Reading, Askings.followed_by, Askings.known};
 ghost use Rattle.rls_evaluation.specs.{Holding.Holds, Holding.Evaluates, Holding.put_in, Scoping.env_of, Scoping.rows_in, Showing.shows};
-ghost use Rattle.rls_judging.specs.Handed.{EvaluatesAt, datum_values_all, datum_values_each, datum_values};
+ghost use Rattle.rls_judging.specs.Handed.{datum_values_all, datum_values_each, datum_values};
 ghost use Rattle.rls_judging.specs.Valuing as spec;
 
-use crate::check_context::mark_all;
-use rls_evaluation::rls_source::{Reads, RowSource};
+use crate::check_context::note_all;
+use rls_evaluation::rls_source::Asker;
 use rls_evaluation::{
     Datum, Env, ExecutionState, Looked, Scoped, SecuredRelation, Tables, VisibleRelations, eval,
 };
 use rls_guard::rls_catalog::BorrowedRow;
 use rls_guard::rls_catalog::rls_expr::Expr;
 use rls_value::{Items, Name};
+use rls_value::or_drop;
 use std::alloc::{AllocError, Global};
 
 /// What the rows are set to, in the order of the assignments, one row's values behind another's. No row is in scope round
 /// them, and what says so has to live as long as the values.
-pub fn assignments_of<'a, 'c, S: RowSource<'c>>(
-    alloc: Global,
-    source: &mut S,
-    read_set: &mut Reads,
+pub fn assignments_of<'a, 'c>(
+    asker: &mut Asker<'c>,
     relations: &'a [SecuredRelation<'c>],
     role: &'a Name,
     nothing: &'a Scoped<'a>,
@@ -29,12 +28,13 @@ pub fn assignments_of<'a, 'c, S: RowSource<'c>>(
     rows: &[&'a BorrowedRow<'c>],
 ) -> Result<Vec<Datum<'a>>, AllocError>
     requires { rows_in nothing.now ≡ [] }
-    ensures { Reading S.state S.after (spec.assignments_of relations.now role.now assignments.now (map (λ row. row.now) rows.now)) source.old source.new read_set.old read_set.new (datum_values_all result) }
+    ensures { Reading (spec.assignments_of relations.now role.now assignments.now (map (λ row. row.now) rows.now)) asker.old asker.new (datum_values_all result) }
 {
-    let mut execution = ExecutionState::new(alloc);
-    let values = set_over(
-        alloc,
-        &*source,
+    let mut execution = ExecutionState::new(asker.alloc());
+    let mut tables = Looked::new(asker.catalog());
+    let values = values_set(
+        asker.alloc(),
+        &mut tables,
         &mut execution,
         relations,
         role,
@@ -42,41 +42,8 @@ pub fn assignments_of<'a, 'c, S: RowSource<'c>>(
         assignments,
         rows,
     )?;
-    match mark_all(alloc, source, read_set, execution) {
-        Ok(()) => Ok(values),
-        Err(refused) => {
-            drop(values);
-            Err(refused)
-        }
-    }
-}
-
-/// The same, while the source is looked at.
-fn set_over<'s, 'a, 'c, S: RowSource<'c>>(
-    alloc: Global,
-    source: &'s S,
-    execution: &mut ExecutionState,
-    relations: &'a [SecuredRelation<'c>],
-    role: &'a Name,
-    nothing: &'a Scoped<'a>,
-    assignments: &'a [(usize, Expr)],
-    rows: &[&'a BorrowedRow<'c>],
-) -> Result<Vec<Datum<'a>>, AllocError>
-    requires holds { Holds relations.now role.now (S.state source.now) execution.old }
-    requires nothing { rows_in nothing.now ≡ [] }
-    ensures { EvaluatesAt (spec.values_set relations.now role.now assignments.now (map (λ row. row.now) rows.now)) (S.state source.now) execution.old.read_set execution.new.read_set (datum_values_all result) }
-{
-    let mut tables: Looked<'s, 'c, S> = Looked::new(source);
-    values_set(
-        alloc,
-        &mut tables,
-        execution,
-        relations,
-        role,
-        nothing,
-        assignments,
-        rows,
-    )
+    or_drop!(note_all(asker, execution), values);
+    Ok(values)
 }
 
 fn values_set<'a, 'c, T: Tables>(
@@ -136,41 +103,26 @@ fn put_values<'a, 'c, T: Tables>(
 }
 
 /// What the expressions of each tuple come to.
-pub fn tuples_of<'a, 'c, S: RowSource<'c>>(
-    alloc: Global,
-    source: &mut S,
-    read_set: &mut Reads,
+pub fn tuples_of<'a, 'c>(
+    asker: &mut Asker<'c>,
     relations: &'a [SecuredRelation<'c>],
     role: &'a Name,
     tuples: &'a [Items<Expr>],
 ) -> Result<Vec<Vec<Datum<'a>>>, AllocError>
-    ensures { Reading S.state S.after (spec.tuples_of relations.now role.now tuples.now) source.old source.new read_set.old read_set.new (datum_values_each result) }
+    ensures { Reading (spec.tuples_of relations.now role.now tuples.now) asker.old asker.new (datum_values_each result) }
 {
-    let mut execution = ExecutionState::new(alloc);
-    let values = put_over(alloc, &*source, &mut execution, relations, role, tuples)?;
-    match mark_all(alloc, source, read_set, execution) {
-        Ok(()) => Ok(values),
-        Err(refused) => {
-            drop(values);
-            Err(refused)
-        }
-    }
-}
-
-/// The same, while the source is looked at.
-fn put_over<'s, 'a, 'c, S: RowSource<'c>>(
-    alloc: Global,
-    source: &'s S,
-    execution: &mut ExecutionState,
-    relations: &'a [SecuredRelation<'c>],
-    role: &'a Name,
-    tuples: &'a [Items<Expr>],
-) -> Result<Vec<Vec<Datum<'a>>>, AllocError>
-    requires { Holds relations.now role.now (S.state source.now) execution.old }
-    ensures { EvaluatesAt (spec.values_put relations.now role.now tuples.now) (S.state source.now) execution.old.read_set execution.new.read_set (datum_values_each result) }
-{
-    let mut tables: Looked<'s, 'c, S> = Looked::new(source);
-    values_put(alloc, &mut tables, execution, relations, role, tuples)
+    let mut execution = ExecutionState::new(asker.alloc());
+    let mut tables = Looked::new(asker.catalog());
+    let values = values_put(
+        asker.alloc(),
+        &mut tables,
+        &mut execution,
+        relations,
+        role,
+        tuples,
+    )?;
+    or_drop!(note_all(asker, execution), values);
+    Ok(values)
 }
 
 fn values_put<'a, 'c, T: Tables>(

@@ -21,8 +21,8 @@ use rls_meaning::expansion_means;
 use rls_meaning::rls_expansion::{PolicyExpansion, expansion_of};
 use rls_meaning::rls_guard::rls_grant::{holds, missing};
 use rls_meaning::rls_guard::rls_policy::{chosen, is_exempt};
-use rls_meaning::rls_guard::rls_role::{EffectiveRoles, can_set, effective_roles_of, has};
-use rls_meaning::rls_guard::rls_source::{Reads, RowSource};
+use rls_meaning::rls_guard::rls_role::{EffectiveRoles, can_set, effective_roles_over, has};
+use rls_meaning::rls_guard::rls_source::{Asker, Reading, RowSource};
 use rls_meaning::rls_guard::role_privileges_of;
 use rls_rows::State;
 use rls_value::{Items, Kind, Name, Privilege, Reference, Refusal};
@@ -161,7 +161,7 @@ pub(crate) fn applying_of<'x>(
 {
     let mut source = state.view();
     let policies = source.policies(alloc, table)?;
-    let effective_roles = effective_roles_of(alloc, &mut source, role)?;
+    let effective_roles = effective_roles_over(alloc, &mut source, role)?;
     let applying = chosen(alloc, policies, &effective_roles, kind, side);
     drop(effective_roles);
     applying
@@ -201,34 +201,23 @@ fn expand<'x>(
 ) -> Result<PolicyExpansion<'x>, Refusal>
     ensures { Gives result (expansion_in state.now (command_of role.now (in_scope from.entry) kind)) }
 {
-    let mut read_set = Reads::new(alloc);
-    let expansion = noted_expansion(alloc, state, &mut read_set, role, from, kind);
-    drop(read_set);
+    let source = state.view();
+    let mut asker = Asker::new(alloc, source.catalog());
+    let expansion = asked_expansion(&mut asker, role, from, kind);
+    drop(asker);
     expansion
 }
 
-fn noted_expansion<'x>(
-    alloc: Global,
-    state: &'x State,
-    read_set: &mut Reads,
+fn asked_expansion<'x>(
+    asker: &mut Asker<'x>,
     role: &Name,
     from: FromTable<'_>,
     kind: Kind,
 ) -> Result<PolicyExpansion<'x>, Refusal>
-    ensures { Gives result (expansion_in state.now (command_of role.now (in_scope from.entry) kind)) }
+    ensures { Gives result (expansion_in asker.old.state (command_of role.now (in_scope from.entry) kind)) }
 {
-    let mut source = state.view();
-    let role_privileges = role_privileges_of(alloc, &mut source, read_set, role)?;
-    let expansion = expansion_of(
-        alloc,
-        &mut source,
-        read_set,
-        &role_privileges,
-        from,
-        kind,
-        false,
-        &[],
-    );
+    let role_privileges = role_privileges_of(asker, role)?;
+    let expansion = expansion_of(asker, &role_privileges, from, kind, false, &[]);
     drop(role_privileges);
     expansion
 }
@@ -243,7 +232,7 @@ pub(crate) fn is_for(
     ensures { IfOk result (λ is. is ≡ verdict.is_to state.now role.now policy.now) }
 {
     let mut source = state.view();
-    let effective_roles = effective_roles_of(alloc, &mut source, role)?;
+    let effective_roles = effective_roles_over(alloc, &mut source, role)?;
     let is = includes_one(&effective_roles, policy.to.as_slice());
     drop(effective_roles);
     Ok(is)

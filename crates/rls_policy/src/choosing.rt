@@ -7,8 +7,8 @@ ghost use Rattle.rls_verdict.specs.rls_catalog.specs.{Privileges.includes, State
 ghost use Rattle.rls_verdict.specs.rls_catalog.specs.Verdict as spec;
 
 use crate::exemption::is_exempt;
-use rls_role::rls_source::RowSource;
-use rls_role::{EffectiveRoles, effective_roles_of};
+use rls_role::rls_source::{Reading, RowSource};
+use rls_role::{EffectiveRoles, effective_roles_over};
 use rls_verdict::rls_catalog::{Policies, Side};
 use rls_verdict::rls_expr::{Expr, Grantee, Policy, TableDef, shared_expr};
 use rls_verdict::rls_value::{Items, Kind, Name, PolicyKind, Reference};
@@ -149,7 +149,7 @@ fn applying_unless_exempt<'c, S: RowSource<'c>>(
     if are_to_everyone(kept.as_slice()) {
         return Ok(kept);
     }
-    let effective_roles = effective_roles_of(alloc, source, role)?;
+    let effective_roles = effective_roles_over(alloc, source, role)?;
     Ok(concerned(kept, &effective_roles))
 }
 

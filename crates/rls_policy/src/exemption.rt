@@ -6,7 +6,7 @@ ghost use Rattle.rls_verdict.specs.rls_catalog.specs.Verdict as spec;
 ghost use Rattle.rls_verdict.specs.rls_catalog.specs.Verdict.{exempt_reads};
 
 use rls_role::has;
-use rls_role::rls_source::RowSource;
+use rls_role::rls_source::{Reading, RowSource};
 use rls_verdict::rls_catalog::RoleDef;
 use rls_verdict::rls_expr::TableDef;
 use rls_verdict::rls_value::Name;

@@ -1,5 +1,5 @@
 -- Members with their memberships, found and put by the member.
-use Rattle.std.specs.Prelude.{◌≡◌, ◌<◌, ◌+◌, refl, ℕ, suc, List, [], ◌∷◌, ◌++◌, Option, Some, None, Bool, true, false, ◌||◌, cond, if◌then◌else◌, drop, get_or, length, map}
+use Rattle.std.specs.Prelude.{◌≡◌, ◌<◌, ◌+◌, refl, ℕ, suc, List, [], ◌∷◌, ◌++◌, Option, Some, None, Bool, true, false, ◌||◌, cond, if◌then◌else◌, drop, get_or, length}
 use Rattle.std.specs.List.{IsDistinct, AllByRecursion}
 use Rattle.std.specs.Map.{keys_of, lookup}
 use Rattle.std.specs.Borrow.{Bor}
@@ -195,9 +195,3 @@ held_next s held grown names more rest grows is =
 pub noted_next : (noted grown : List Object) (names more rest : List (List ℕ)) → grown ≡ noted ++ held_reads names → rest ≡ names ++ more → grown ++ held_reads more ≡ noted ++ held_reads rest
 noted_next noted grown names more rest grows is =
     ap (λ all. all ++ held_reads more) grows ∙ append_assoc noted (held_reads names) (held_reads more) ∙ ap (λ all. noted ++ all) (reads_both names more ∙ ap held_reads (sym is))
-
--- what the reads that come still make of the source
-pub read_next : {A : Type 0} (after : A → List Object → A) → ((s : A) (os more : List Object) → after (after s os) more ≡ after s (os ++ more))
-    → (source grown : A) (names more rest : List (List ℕ)) → grown ≡ after source (held_reads names) → rest ≡ names ++ more → after grown (held_reads more) ≡ after source (held_reads rest)
-read_next after after_more source grown names more rest grows is =
-    ap (λ s. after s (held_reads more)) grows ∙ after_more source (held_reads names) (held_reads more) ∙ ap (after source) (reads_both names more ∙ ap held_reads (sym is))

@@ -1,6 +1,6 @@
 -- One more visit of a walk.
 use Rattle.std.specs.Prelude.{◌≡◌, ℕ, suc, ◌+◌, List, [], ◌∷◌, ◌++◌, Some, None, take, slice_get}
-use Rattle.std.proofs.Common.{arith, ap, ◌∙◌, sym}
+use Rattle.std.proofs.Common.{arith, ap, append_assoc, ◌∙◌, sym}
 use Rattle.rls_source.specs.rls_value.specs.declared.object.Object.{Object}
 use Rattle.rls_source.specs.rls_catalog.specs.State.{State}
 use Rattle.rls_source.specs.rls_catalog.specs.Membership.{fresh, inherited_by, walk, visit_reads, walk_reads}
@@ -28,15 +28,14 @@ leads_next step held now s role names grown next name same found grows leads n =
     ∙ leads_on marked role names next name found leads n
     ∙ (λ i. walk (n + sym (one_more next) i) marked (role ∷ []) 0)
 
-pub reads_next : {A : Type 0} (after : A → List Object → A) → ((s : A) (os more : List Object) → after (after s os) more ≡ after s (os ++ more))
-    → (start source new : A) (names grown more : List (List ℕ)) (next : ℕ) (name : List ℕ) → slice_get names next ≡ Some name → grown ≡ names ++ more
-    → source ≡ after start (walk_reads (take next names)) → new ≡ after source (visit_reads name)
-    → new ≡ after start (walk_reads (take (next + 1) grown))
-reads_next after after_more start source new names grown more next name found grows so_far visit =
-    visit ∙ ap (λ s. after s (visit_reads name)) so_far ∙ after_more start (walk_reads (take next names)) (visit_reads name)
-    ∙ ap (after start) (reads_on names more next name found)
-    ∙ (λ i. after start (walk_reads (take (sym (one_more next) i) (sym grows i))))
+pub reads_next : (start reads new : List Object) (names grown more : List (List ℕ)) (next : ℕ) (name : List ℕ) → slice_get names next ≡ Some name → grown ≡ names ++ more
+    → reads ≡ start ++ walk_reads (take next names) → new ≡ reads ++ visit_reads name
+    → new ≡ start ++ walk_reads (take (next + 1) grown)
+reads_next start reads new names grown more next name found grows so_far visit =
+    visit ∙ ap (λ objects. objects ++ visit_reads name) so_far ∙ append_assoc start (walk_reads (take next names)) (visit_reads name)
+    ∙ ap (λ objects. start ++ objects) (reads_on names more next name found)
+    ∙ (λ i. start ++ walk_reads (take (sym (one_more next) i) (sym grows i)))
 
-pub reads_end : {A : Type 0} (after : A → List Object → A) → (start source : A) (names reached : List (List ℕ)) (next : ℕ) → slice_get names next ≡ None → names ≡ reached
-    → source ≡ after start (walk_reads (take next names)) → source ≡ after start (walk_reads reached)
-reads_end after start source names reached next past same so_far = so_far ∙ ap (λ ns. after start (walk_reads ns)) (reads_all names next past ∙ same)
+pub reads_end : (start reads : List Object) (names reached : List (List ℕ)) (next : ℕ) → slice_get names next ≡ None → names ≡ reached
+    → reads ≡ start ++ walk_reads (take next names) → reads ≡ start ++ walk_reads reached
+reads_end start reads names reached next past same so_far = so_far ∙ ap (λ ns. start ++ walk_reads ns) (reads_all names next past ∙ same)

@@ -11,71 +11,47 @@ use crate::held_memberships::{held_of, write_held};
 use crate::holding::Holdings;
 use crate::managing::require_managed;
 use crate::names::is_among;
-use crate::noting::note_walk;
 use crate::walking::{Step, reached};
+use rls_source::Asker;
 use rls_source::rls_catalog::{Delta, Membership, Memberships};
 use rls_source::rls_value::{GrantFault, Items, Name, Refusal};
-use rls_source::{Reads, RowSource, require_roles};
 use rls_statement::{GrantRoles, MembershipOptions};
 use std::alloc::{AllocError, Global};
 
 /// What it takes that the current role grants each of the roles to each of the members: all memberships of each member
 /// (PostgreSQL manual, GRANT). Refused are, in this order: a role that isn't there; one that the current role doesn't
 /// manage; a membership that would close a circle.
-pub fn grant_member<'c, S: RowSource<'c>>(
-    alloc: Global,
-    source: &mut S,
-    read_set: &mut Reads,
-    current: &Name,
-    grant: &GrantRoles,
-) -> Result<Delta, Refusal>
-    ensures { Answers S.state S.after (spec.grant_member current.now grant.now) source.old source.new read_set.old read_set.new result }
+pub fn grant_member(asker: &mut Asker, current: &Name, grant: &GrantRoles) -> Result<Delta, Refusal>
+    ensures { Answers (spec.grant_member current.now grant.now) asker.old asker.new result }
 {
-    require_roles(alloc, source, read_set, grant.roles.as_slice())?;
-    require_roles(alloc, source, read_set, grant.to.as_slice())?;
-    grant_roles(alloc, source, read_set, current, grant)
+    asker.require_roles(grant.roles.as_slice())?;
+    asker.require_roles(grant.to.as_slice())?;
+    grant_roles(asker, current, grant)
 }
 
 #[tactic(auto, unfolding(crate::specs::Granting::roles_granted))]
-fn grant_roles<'c, S: RowSource<'c>>(
-    alloc: Global,
-    source: &mut S,
-    read_set: &mut Reads,
-    current: &Name,
-    grant: &GrantRoles,
-) -> Result<Delta, Refusal>
-    ensures { Answers S.state S.after (roles_granted current.now grant.now) source.old source.new read_set.old read_set.new result }
+fn grant_roles(asker: &mut Asker, current: &Name, grant: &GrantRoles) -> Result<Delta, Refusal>
+    ensures { Answers (roles_granted current.now grant.now) asker.old asker.new result }
 {
-    require_managed(alloc, source, read_set, current, grant.roles.as_slice())?;
-    grant_memberships(alloc, source, read_set, grant)
+    require_managed(asker, current, grant.roles.as_slice())?;
+    grant_memberships(asker, grant)
 }
 
 #[tactic(auto, unfolding(crate::specs::Granting::memberships_granted))]
-fn grant_memberships<'c, S: RowSource<'c>>(
-    alloc: Global,
-    source: &mut S,
-    read_set: &mut Reads,
-    grant: &GrantRoles,
-) -> Result<Delta, Refusal>
-    ensures { Answers S.state S.after (memberships_granted grant.now) source.old source.new read_set.old read_set.new result }
+fn grant_memberships(asker: &mut Asker, grant: &GrantRoles) -> Result<Delta, Refusal>
+    ensures { Answers (memberships_granted grant.now) asker.old asker.new result }
 {
-    let held = held_of(alloc, source, read_set, grant.to.as_slice())?;
-    grant_held(alloc, source, read_set, grant, held)
+    let held = held_of(asker, grant.to.as_slice())?;
+    grant_held(asker, grant, held)
 }
 
 /// All memberships of the members, once the roles are granted to them.
-fn grant_held<'c, S: RowSource<'c>>(
-    alloc: Global,
-    source: &mut S,
-    read_set: &mut Reads,
-    grant: &GrantRoles,
-    held: Holdings,
-) -> Result<Delta, Refusal>
-    ensures { Answers S.state S.after (followed_by (each_granted grant.now.options grant.now.roles grant.now.to held) (λ grown. known (Ok (members_written grown)))) source.old source.new read_set.old read_set.new result }
+fn grant_held(asker: &mut Asker, grant: &GrantRoles, held: Holdings) -> Result<Delta, Refusal>
+    ensures { Answers (followed_by (each_granted grant.now.options grant.now.roles grant.now.to held) (λ grown. known (Ok (members_written grown)))) asker.old asker.new result }
 {
     let (roles, to) = (grant.roles.as_slice(), grant.to.as_slice());
-    let held = grant_each(alloc, source, read_set, grant.options, roles, to, held)?;
-    Ok(written(alloc, held)?)
+    let held = grant_each(asker, grant.options, roles, to, held)?;
+    Ok(written(asker.alloc(), held)?)
 }
 
 fn written(alloc: Global, held: Holdings) -> Result<Delta, AllocError>
@@ -85,81 +61,62 @@ fn written(alloc: Global, held: Holdings) -> Result<Delta, AllocError>
 }
 
 /// Each of the roles to each of the members, pair by pair.
-fn grant_each<'c, S: RowSource<'c>>(
-    alloc: Global,
-    source: &mut S,
-    read_set: &mut Reads,
+fn grant_each(
+    asker: &mut Asker,
     written: MembershipOptions,
     roles: &[Name],
     members: &[Name],
     held: Holdings,
 ) -> Result<Holdings, Refusal>
-    ensures { Answers S.state S.after (each_granted written roles.now members.now held) source.old source.new read_set.old read_set.new result }
+    ensures { Answers (each_granted written roles.now members.now held) asker.old asker.new result }
 {
     let mut held = held;
     for role in roles {
-        held = grant_role(alloc, source, read_set, written, role, members, held)?;
+        held = grant_role(asker, written, role, members, held)?;
     }
     Ok(held)
 }
 
 /// The role to each of the members.
-fn grant_role<'c, S: RowSource<'c>>(
-    alloc: Global,
-    source: &mut S,
-    read_set: &mut Reads,
+fn grant_role(
+    asker: &mut Asker,
     written: MembershipOptions,
     role: &Name,
     members: &[Name],
     held: Holdings,
 ) -> Result<Holdings, Refusal>
-    ensures { Answers S.state S.after (role_granted written role.now members.now held) source.old source.new read_set.old read_set.new result }
+    ensures { Answers (role_granted written role.now members.now held) asker.old asker.new result }
 {
     let mut held = held;
     for member in members {
-        held = grant_pair(alloc, source, read_set, written, role, member, held)?;
+        held = grant_pair(asker, written, role, member, held)?;
     }
     Ok(held)
 }
 
 /// The role to the member, unless that closes a circle with the memberships that are there and those of earlier pairs.
 #[tactic(auto, unfolding(crate::specs::Granting::pair_granted))]
-fn grant_pair<'c, S: RowSource<'c>>(
-    alloc: Global,
-    source: &mut S,
-    read_set: &mut Reads,
+fn grant_pair(
+    asker: &mut Asker,
     written: MembershipOptions,
     role: &Name,
     member: &Name,
     held: Holdings,
 ) -> Result<Holdings, Refusal>
-    ensures { Answers S.state S.after (pair_granted written role.now member.now held) source.old source.new read_set.old read_set.new result }
+    ensures { Answers (pair_granted written role.now member.now held) asker.old asker.new result }
 {
-    let path = noted_path(alloc, source, read_set, &held, role)?;
+    let path = path_from(asker, &held, role)?;
     let closes = is_among(path.as_slice(), member);
     drop(path);
-    join(alloc, written, role, member, held, closes)
+    join(asker.alloc(), written, role, member, held, closes)
 }
 
 /// The role and those that it reaches over any memberships.
 #[tactic(auto, unfolding(crate::specs::Granting::path_in))]
-fn noted_path<'c, S: RowSource<'c>>(
-    alloc: Global,
-    source: &mut S,
-    read_set: &mut Reads,
-    held: &Holdings,
-    role: &Name,
-) -> Result<Items<Name>, AllocError>
-    ensures { Tells S.state S.after (asked_path held.now role.now) source.old source.new read_set.old read_set.new result }
+fn path_from(asker: &mut Asker, held: &Holdings, role: &Name) -> Result<Items<Name>, AllocError>
+    ensures { Tells (asked_path held.now role.now) asker.old asker.new result }
 {
-    let path = reached(alloc, source, held, role, Step::Any)?;
-    match note_walk(read_set, path.as_slice()) {
-        Ok(()) => Ok(path),
-        Err(refused) => {
-            drop(path);
-            Err(refused)
-        }
-    }
+    reached(asker, held, role, Step::Any)
 }
 
 fn join(

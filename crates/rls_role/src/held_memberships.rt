@@ -2,51 +2,38 @@
 
 ghost use Rattle.std.specs.Prelude.{◌≡◌, [], ◌∷◌, ◌++◌, IfOk, OnOk};
 ghost use Rattle.rls_source.specs.rls_catalog.specs.Membership.{fresh};
-ghost use Rattle.rls_source.specs.Answering.{Tells};
+ghost use Rattle.rls_source.specs.Answering.{Tells, having_read};
 ghost use Rattle.rls_role.specs.Granting.{asked_held, held_in, held_reads, members_written};
 ghost use Rattle.rls_role.specs.Holdings.{members_in};
 
 use crate::holding::{HeldMembership, Holdings};
+use rls_source::Asker;
 use rls_source::rls_catalog::{Change, Delta};
 use rls_source::rls_value::{Items, Name};
-use rls_source::{Reads, RowSource, noted_members};
 use std::alloc::{AllocError, Global};
 
 /// The memberships of each of the members, who may be named twice and stand there once.
 #[tactic(auto, unfolding(crate::specs::Granting::held_at))]
-pub fn held_of<'c, S: RowSource<'c>>(
-    alloc: Global,
-    source: &mut S,
-    read_set: &mut Reads,
-    members: &[Name],
-) -> Result<Holdings, AllocError>
-    ensures { Tells S.state S.after (asked_held (fresh [] members.now)) source.old source.new read_set.old read_set.new result }
+pub fn held_of(asker: &mut Asker, members: &[Name]) -> Result<Holdings, AllocError>
+    ensures { Tells (asked_held (fresh [] members.now)) asker.old asker.new result }
 {
-    let mut held = Holdings::new(alloc);
+    let mut held = Holdings::new(asker.alloc());
     for member in members {
-        hold_member(alloc, source, read_set, &mut held, member)?;
+        hold_member(asker, &mut held, member)?;
     }
     Ok(held)
 }
 
 /// The member and its memberships behind the others, unless it is there.
 #[tactic(auto, unfolding(rls_source::specs::Asked::members_at))]
-fn hold_member<'c, S: RowSource<'c>>(
-    alloc: Global,
-    source: &mut S,
-    read_set: &mut Reads,
-    held: &mut Holdings,
-    member: &Name,
-) -> Result<(), AllocError>
-    ensures held { OnOk result (held.new ≡ held.old ++ held_in (S.state source.old) (fresh (members_in held.old) (member.now ∷ []))) }
-    ensures read { OnOk result (source.new ≡ S.after source.old (held_reads (fresh (members_in held.old) (member.now ∷ [])))) }
-    ensures noted { OnOk result (read_set.new ≡ read_set.old ++ held_reads (fresh (members_in held.old) (member.now ∷ []))) }
-    ensures state { S.state source.new ≡ S.state source.old }
+fn hold_member(asker: &mut Asker, held: &mut Holdings, member: &Name) -> Result<(), AllocError>
+    ensures held { OnOk result (held.new ≡ held.old ++ held_in asker.old.state (fresh (members_in held.old) (member.now ∷ []))) }
+    ensures noted { OnOk result (asker.new ≡ having_read asker.old (held_reads (fresh (members_in held.old) (member.now ∷ [])))) }
 {
     if held.find(member).is_some() {
         return Ok(());
     }
-    let memberships = noted_members(alloc, source, read_set, member)?.copy()?;
+    let memberships = asker.members(member)?.copy()?;
     held.put(member, memberships)
 }
 

@@ -9,16 +9,16 @@ mod laws;
 mod managing;
 mod name_set;
 mod names;
-mod noting;
 mod revoking;
 mod walking;
 
-pub use effective_roles::{EffectiveRoles, can_set, effective_roles_by, effective_roles_of, has};
+pub use effective_roles::{
+    EffectiveRoles, can_set, effective_roles_of, effective_roles_over, has, reaches,
+};
 pub use granting::grant_member;
 pub use holding::{HeldMembership, Holdings};
 pub use laws::memberships_mean;
 pub use names::is_among;
-pub use noting::{note_effective_roles, note_walk, noted_effective_roles};
 pub use revoking::revoke_member;
 pub use rls_source;
 pub use rls_statement;

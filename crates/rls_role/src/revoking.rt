@@ -9,53 +9,41 @@ ghost use Rattle.rls_role.specs.Revoking as spec;
 use crate::held_memberships::{held_of, write_held};
 use crate::holding::HeldMembership;
 use crate::managing::require_managed;
+use rls_source::Asker;
 use rls_source::rls_catalog::{Delta, Membership, Memberships};
 use rls_source::rls_value::{Items, Name, Refusal};
-use rls_source::{Reads, RowSource, require_roles};
 use rls_statement::{MembershipOption, RevokeRoles};
 use std::alloc::{AllocError, Global};
 
 /// What it takes that the current role takes each of the roles from each of the members, or one option of those
 /// memberships (PostgreSQL manual, REVOKE). What isn't there is written as it is. Refused are, in this order: a role that
 /// isn't there; one that the current role doesn't manage.
-pub fn revoke_member<'c, S: RowSource<'c>>(
-    alloc: Global,
-    source: &mut S,
-    read_set: &mut Reads,
+pub fn revoke_member(
+    asker: &mut Asker,
     current: &Name,
     revoke: &RevokeRoles,
 ) -> Result<Delta, Refusal>
-    ensures { Answers S.state S.after (spec.revoke_member current.now revoke.now) source.old source.new read_set.old read_set.new result }
+    ensures { Answers (spec.revoke_member current.now revoke.now) asker.old asker.new result }
 {
-    require_roles(alloc, source, read_set, revoke.roles.as_slice())?;
-    require_roles(alloc, source, read_set, revoke.from.as_slice())?;
-    revoke_roles(alloc, source, read_set, current, revoke)
+    asker.require_roles(revoke.roles.as_slice())?;
+    asker.require_roles(revoke.from.as_slice())?;
+    revoke_roles(asker, current, revoke)
 }
 
 #[tactic(auto, unfolding(crate::specs::Revoking::roles_revoked))]
-fn revoke_roles<'c, S: RowSource<'c>>(
-    alloc: Global,
-    source: &mut S,
-    read_set: &mut Reads,
-    current: &Name,
-    revoke: &RevokeRoles,
-) -> Result<Delta, Refusal>
-    ensures { Answers S.state S.after (roles_revoked current.now revoke.now) source.old source.new read_set.old read_set.new result }
+fn revoke_roles(asker: &mut Asker, current: &Name, revoke: &RevokeRoles) -> Result<Delta, Refusal>
+    ensures { Answers (roles_revoked current.now revoke.now) asker.old asker.new result }
 {
-    require_managed(alloc, source, read_set, current, revoke.roles.as_slice())?;
-    revoke_memberships(alloc, source, read_set, revoke)
+    require_managed(asker, current, revoke.roles.as_slice())?;
+    revoke_memberships(asker, revoke)
 }
 
 #[tactic(auto, unfolding(crate::specs::Revoking::memberships_revoked))]
-fn revoke_memberships<'c, S: RowSource<'c>>(
-    alloc: Global,
-    source: &mut S,
-    read_set: &mut Reads,
-    revoke: &RevokeRoles,
-) -> Result<Delta, Refusal>
-    ensures { Answers S.state S.after (memberships_revoked revoke.now) source.old source.new read_set.old read_set.new result }
+fn revoke_memberships(asker: &mut Asker, revoke: &RevokeRoles) -> Result<Delta, Refusal>
+    ensures { Answers (memberships_revoked revoke.now) asker.old asker.new result }
 {
-    let held = held_of(alloc, source, read_set, revoke.from.as_slice())?;
+    let held = held_of(asker, revoke.from.as_slice())?;
+    let alloc = asker.alloc();
     Ok(revoked(alloc, revoke, held.into_items(alloc)?)?)
 }
 

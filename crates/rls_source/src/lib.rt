@@ -1,26 +1,26 @@
-//! Sources of rows: who stands for a state, look-ups that are noted, names that have to be there, what was read, and what a
-//! change covers.
+//! Sources of rows: who stands for a state, who asks it, names that have to be there, what was read, and what a change covers.
 #![tactic(auto)]
 
+mod asker;
 mod covering;
 mod footprint;
 mod laws;
-mod named;
-mod noted;
+mod naming;
+mod overlay;
 mod plain;
+mod reading;
 mod reads;
 mod recording;
 mod source;
 mod statement_source;
 
+pub use asker::Asker;
 pub use covering::covers;
 pub use footprint::Footprint;
 pub use laws::uncovered_stays;
-pub use named::{require_grantees, require_roles, role_named, table_named};
-pub use noted::{
-    noted_grants, noted_key, noted_members, noted_policies, noted_role, noted_scan, noted_table,
-};
+pub use overlay::Overlay;
 pub use plain::Plain;
+pub use reading::Reading;
 pub use reads::Reads;
 pub use recording::Recording;
 pub use rls_catalog;

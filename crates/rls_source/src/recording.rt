@@ -8,9 +8,8 @@ ghost use Rattle.rls_source.specs.FootprintSets.{with_footprint};
 use crate::footprint::Footprint;
 use crate::source::RowSource;
 use crate::statement_source::StatementSource;
-use rls_catalog::rls_expr::TableDef;
-use rls_catalog::rls_value::{Items, Name, Object, Row};
-use rls_catalog::{BorrowedRow, Grants, Memberships, Policies, RoleDef};
+use rls_catalog::Catalog;
+use rls_catalog::rls_value::Object;
 use std::alloc::{AllocError, Global};
 
 /// A source, and what was read from it.
@@ -37,71 +36,8 @@ impl<'c, S: RowSource<'c>> RowSource<'c> for Recording<S> {
 
     ghost after = { λ s os. record { source = S.after s.source os; footprint = with_reads s.footprint os } };
 
-    fn role(&mut self, alloc: Global, name: &Name) -> Result<Option<&'c RoleDef>, AllocError> {
-        let object = Object::Role(name.copy()?);
-        let found = self.source.role(alloc, name)?;
-        self.footprint.note(object)?;
-        Ok(found)
-    }
-
-    fn members(&mut self, alloc: Global, member: &Name) -> Result<&'c Memberships, AllocError> {
-        let object = Object::Members(member.copy()?);
-        let found = self.source.members(alloc, member)?;
-        self.footprint.note(object)?;
-        Ok(found)
-    }
-
-    fn table(&mut self, alloc: Global, name: &Name) -> Result<Option<&'c TableDef>, AllocError> {
-        let object = Object::Table(name.copy()?);
-        let found = self.source.table(alloc, name)?;
-        self.footprint.note(object)?;
-        Ok(found)
-    }
-
-    fn grants(&mut self, alloc: Global, table: &Name) -> Result<&'c Grants, AllocError> {
-        let object = Object::Grants(table.copy()?);
-        let found = self.source.grants(alloc, table)?;
-        self.footprint.note(object)?;
-        Ok(found)
-    }
-
-    fn policies(&mut self, alloc: Global, table: &Name) -> Result<&'c Policies, AllocError> {
-        let object = Object::Policies(table.copy()?);
-        let found = self.source.policies(alloc, table)?;
-        self.footprint.note(object)?;
-        Ok(found)
-    }
-
-    fn scan(&mut self, alloc: Global, table: &Name) -> Result<Items<BorrowedRow<'c>>, AllocError> {
-        let object = Object::Rows(table.copy()?);
-        let found = self.source.scan(alloc, table)?;
-        self.footprint.note(object)?;
-        Ok(found)
-    }
-
-    fn by_key(
-        &mut self,
-        alloc: Global,
-        table: &Name,
-        key: &Row,
-    ) -> Result<Items<BorrowedRow<'c>>, AllocError> {
-        let object = Object::Key(table.copy()?, key.copy(alloc)?);
-        let found = self.source.by_key(alloc, table, key)?;
-        self.footprint.note(object)?;
-        Ok(found)
-    }
-
-    fn look(&self, alloc: Global, table: &Name) -> Result<Items<BorrowedRow<'c>>, AllocError> {
-        self.source.look(alloc, table)
-    }
-
-    fn look_by_key(
-        &self,
-        alloc: Global,
-        table: &Name,
-        key: &Row,
-    ) -> Result<Items<BorrowedRow<'c>>, AllocError> {
-        self.source.look_by_key(alloc, table, key)
+    fn catalog(&self) -> &'c Catalog {
+        self.source.catalog()
     }
 
     fn mark(&mut self, alloc: Global, objects: &[Object]) -> Result<(), AllocError> {
@@ -129,10 +65,6 @@ impl<'c, S: StatementSource<'c>> StatementSource<'c> for Recording<S> {
                 Err(refused)
             }
         }
-    }
-
-    fn unread(&self, alloc: Global) -> Result<Recording<S>, AllocError> {
-        Ok(Recording::new(alloc, self.source.unread(alloc)?))
     }
 
     ghost counts_once = { λ s. record { counted = λ os i. record { source = (S.counts_once s.source).counted os i; footprint = with_footprint s.footprint os i } } };

@@ -1,19 +1,14 @@
 //! What a statement is run over.
 
-ghost use Rattle.std.specs.Prelude.{◌≡◌, IfOk, OnOk, OnErr};
+ghost use Rattle.std.specs.Prelude.{◌≡◌, OnOk, OnErr};
 ghost use Rattle.rls_source.specs.Footprints.{CountsOnce};
 
 use crate::footprint::Footprint;
 use crate::source::RowSource;
 use std::alloc::{AllocError, Global};
 
-/// A source over which a statement can be run: it gives another one that stands for the same state, and takes the reads of a
-/// footprint at once.
+/// A source over which a statement can be run: it takes the reads of a footprint at once.
 pub trait StatementSource<'c>: RowSource<'c> {
-    /// A source that stands for the same state, of which nothing is read.
-    fn unread(&self, alloc: Global) -> Result<Self, AllocError>
-        ensures { IfOk result (λ other. Self.state other ≡ Self.state self.now) };
-
     /// Marks that the objects of the footprint were read. After an `Err` the source is as before.
     fn mark_all(&mut self, alloc: Global, objects: &Footprint) -> Result<(), AllocError>
         ensures read { OnOk result (self.new ≡ Self.after self.old objects.now) }

@@ -14,5 +14,5 @@ pub returns-clause-read : goal.returns-clause-read
 returns-clause-read g c =
     c.in_ok-mark_all.ensures.read
     ∙ ap (g.S.RowSource.after c.args.source.now)
-    (c.in_ok-outcome.ensures.footprint ∙ ap (λ (state : State). footprint_of ((step c.args.ctx.now c.args.statement.now).in_state state).reads) c.in_ok-unread.ensures)
+    (c.in_ok-outcome.ensures.footprint ∙ ap (λ (state : State). footprint_of ((step c.args.ctx.now c.args.statement.now).in_state state).reads) c.catalog.ensures)
     ∙ ((g.met.S.StatementSource c.lifetimes (search rules)).counts_once c.args.source.now).counted ((step c.args.ctx.now c.args.statement.now).in_state (g.S.RowSource.state c.args.source.now)).reads

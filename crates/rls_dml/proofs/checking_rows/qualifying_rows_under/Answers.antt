@@ -5,6 +5,6 @@ use Rattle.rls_judging.specs.Judging as spec
 use Rattle.rls_dml.proofs.checking_rows.qualifying_rows_under.Goals as goal
 
 pub returns : goal.returns
-returns g c =
-    subst (λ row_checks. Tells g.S.RowSource.state g.S.RowSource.after (spec.qualifying_rows_of row_checks c.args.expansion.now.relations c.args.role.now c.args.condition.now c.args.scanned_rows.now) c.args.source.now c.qualifying_rows_of.new.source c.args.read_set.now c.qualifying_rows_of.new.read_set (judged_now c.qualifying_rows_of.result)) c.as_slice.ensures
-    (subst (λ relations. Tells g.S.RowSource.state g.S.RowSource.after (spec.qualifying_rows_of c.as_slice.result.now relations c.args.role.now c.args.condition.now c.args.scanned_rows.now) c.args.source.now c.qualifying_rows_of.new.source c.args.read_set.now c.qualifying_rows_of.new.read_set (judged_now c.qualifying_rows_of.result)) c.as_slice-2.ensures c.qualifying_rows_of.ensures)
+returns c =
+    subst (λ row_checks. Tells (spec.qualifying_rows_of row_checks c.args.expansion.now.relations c.args.role.now c.args.condition.now c.args.scanned_rows.now) c.args.asker.now c.qualifying_rows_of.new.asker (judged_now c.qualifying_rows_of.result)) c.as_slice.ensures
+    (subst (λ relations. Tells (spec.qualifying_rows_of c.as_slice.result.now relations c.args.role.now c.args.condition.now c.args.scanned_rows.now) c.args.asker.now c.qualifying_rows_of.new.asker (judged_now c.qualifying_rows_of.result)) c.as_slice-2.ensures c.qualifying_rows_of.ensures)

@@ -6,6 +6,6 @@ use Rattle.rls_explain.proofs.comparing.literals_on.Given as goal
 
 -- the values so far, and those of the expressions that are left, are all
 abbrev pub invariant-loop-expr : goal.invariant-loop-expr
-invariant-loop-expr g l =
-    let given = values_by (sight_found (g.S.RowSource.state l.source) l.judged.relations.now l.judged.role.now) (over l.judged.role.now l.judged.row.now) in
+invariant-loop-expr l =
+    let given = values_by (sight_found l.catalog l.judged.relations.now l.judged.role.now) (over l.judged.role.now l.judged.row.now) in
     l.literals.items ++ map Literal (given (terms_of (drop l.expr-index l.list))) ≡ map Literal (given (terms_of l.list))

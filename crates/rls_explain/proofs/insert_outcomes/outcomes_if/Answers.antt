@@ -7,9 +7,9 @@ use Rattle.rls_explain.specs.FoundOutcomes.{insert_told, names_listed, seen_foun
 use Rattle.rls_explain.proofs.insert_outcomes.outcomes_if.Goals as goal
 
 -- the rows as they are told by what new rows are judged by, and those that could be seen
-pub returns-in_ok-outcomes-in-Some-clause-rows : goal.returns-in_ok-outcomes-in-Some-clause-rows
-returns-in_ok-outcomes-in-Some-clause-rows g c =
-    let s = g.S.RowSource.state c.args.source.now in
+pub returns-in_ok-outcomes-in-Some : goal.returns-in_ok-outcomes-in-Some
+returns-in_ok-outcomes-in-Some c =
+    let s = c.args.catalog.now in
     let ctx = c.args.ctx.now in
     let name = c.args.from.name.now in
     let columns = c.args.from.table.now.columns in
@@ -22,4 +22,4 @@ returns-in_ok-outcomes-in-Some-clause-rows g c =
     ∙ (λ j. tuples_told (tells_new s (shows (context.relations j) (context.role j)) (context.role j) (context.checks j) name ended.returning ended.done) (tuple_written s (shows (context.relations j) (context.role j)) (context.role j) columns parts.places.items) ctx.txn ctx.next parts.tuples)) i
     ++ seen_found s ctx.role looks.read.now (names_listed c.in-Some.expansion looks.queries.now))
     ∙ ap (λ (found : Option PolicyExpansion). insert_told s ctx.role name ctx.txn ctx.next columns parts.places.items ended.returning ended.done looks.read.now looks.queries.now parts.tuples found) (sym c.in-Some.is))
-    c.with_seen.ensures.rows
+    c.with_seen.ensures

@@ -5,8 +5,8 @@ use Rattle.rls_explain.proofs.insert_outcomes.outcomes_of_tuples.Given as goal
 
 -- what is told so far, and of the tuples that are left, is all; there are numbers for them
 abbrev pub invariant-loop-tuple : goal.invariant-loop-tuple
-invariant-loop-tuple g l =
-    let s = g.S.RowSource.state l.source in
+invariant-loop-tuple l =
+    let s = l.catalog in
     let role = l.context.role.now in
     let sees = shows l.context.relations.now role in
     let told = tuples_told (tells_new s sees role l.context.row_checks.now l.from.name.now l.ended.returning l.ended.done) (tuple_written s sees role l.from.table.now.columns l.parts.places.items) l.ctx.txn in

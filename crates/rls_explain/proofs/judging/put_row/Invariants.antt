@@ -5,6 +5,6 @@ use Rattle.rls_explain.proofs.judging.put_row.Given as goal
 
 -- what is explained so far, and by the checks that are left, is all
 abbrev pub invariant-loop-row_check : goal.invariant-loop-row_check
-invariant-loop-row_check g l =
-    let explains = explained_check (g.S.RowSource.state l.source) (shows l.context.relations.now l.context.role.now) l.context.role.now l.id l.row in
+invariant-loop-row_check l =
+    let explains = explained_check l.catalog (shows l.context.relations.now l.context.role.now) l.context.role.now l.id l.row in
     l.explained.items ++ map explains (drop l.row_check-index l.context.row_checks.now) ≡ l.fn.explained.items ++ map explains l.context.row_checks.now

@@ -10,14 +10,14 @@ use Rattle.rls_explain.specs.Found.{expansion_found}
 use Rattle.rls_explain.specs.FoundOutcomes.{scan_told}
 use Rattle.rls_explain.proofs.scan_outcomes.deleted_outcomes.Goals as goal
 
--- by the law, in the state that the source stands for
-pub returns-clause-rows : goal.returns-clause-rows
-returns-clause-rows g c =
+-- by the law
+pub returns : goal.returns
+returns c =
     let role = c.args.ctx.now.role in
     let condition = c.in_ok-condition.condition in
     let name = c.args.delete.now.table in
     subst (λ (all : List RowOutcome). IfOk c.scan_outcomes-rows.result (λ rows. rows ≡ all))
-    ((λ i. scan_told (c.in_ok-condition.ensures.state i) role name condition (record { word = w.Deleted; returning = c.is_some-returning.ensures i }) c.args.read.now (tables_if condition)
-    (rows_at_key (c.in_ok-condition.ensures.state i) name (pinned_key role c.args.table.now.key condition)) (expansion_found (c.in_ok-condition.ensures.state i) role (name, c.args.table.now) k.Delete c.args.reads (tables_if condition)))
-    ∙ c.outcomes_found.ensures.delete (g.S.RowSource.state c.args.source.now) c.args.ctx.now c.args.delete.now c.args.id c.args.table.now condition c.args.reads c.args.done c.args.read.now c.requires.there c.requires.decides c.requires.reads c.in_ok-condition.ensures.condition)
-    c.scan_outcomes-rows.ensures.rows
+    ((λ i. scan_told c.args.catalog.now role name condition (record { word = w.Deleted; returning = c.is_some-returning.ensures i }) c.args.read.now (tables_if condition)
+    (rows_at_key c.args.catalog.now name (pinned_key role c.args.table.now.key condition)) (expansion_found c.args.catalog.now role (name, c.args.table.now) k.Delete c.args.reads (tables_if condition)))
+    ∙ c.outcomes_found.ensures.delete c.args.catalog.now c.args.ctx.now c.args.delete.now c.args.id c.args.table.now condition c.args.reads c.args.done c.args.read.now c.requires.there c.requires.decides c.requires.reads c.in_ok-condition.ensures)
+    c.scan_outcomes-rows.ensures

@@ -9,14 +9,15 @@ use Rattle.rls_explain.specs.Found.{expansion_found}
 use Rattle.rls_explain.specs.FoundOutcomes.{scan_told}
 use Rattle.rls_explain.proofs.scan_outcomes.selected_outcomes.Goals as goal
 
--- by the law, in the state that the source stands for
-pub returns-clause-rows : goal.returns-clause-rows
-returns-clause-rows g c =
+-- by the law
+pub returns : goal.returns
+returns c =
+    let s = c.args.catalog.now in
     let role = c.args.ctx.now.role in
     let condition = c.in_ok-condition.condition in
     let name = c.args.select.now.table in
     subst (λ (all : List RowOutcome). IfOk c.scan_outcomes-rows.result (λ rows. rows ≡ all))
-    ((λ i. scan_told (c.in_ok-condition.ensures.state i) role name condition (c.listed_as-met.ensures i) c.args.read.now (tables_if condition) (rows_at_key (c.in_ok-condition.ensures.state i) name (pinned_key role c.args.table.now.key condition)) (expansion_found (c.in_ok-condition.ensures.state i) role (name, c.args.table.now) k.Select false (tables_if condition)))
-    ∙ c.outcomes_found.ensures.select (g.S.RowSource.state c.args.source.now) c.args.ctx.now c.args.select.now c.args.id c.args.table.now condition c.args.done c.args.read.now c.requires.there c.requires.decides
-    (c.in_ok-condition.ensures.condition ∙ ap (λ (qualifier : List ℕ). option_map (resolved (g.S.RowSource.state c.args.source.now) ((qualifier, c.args.table.now) ∷ [])) c.args.select.now.condition) c.qualifier_of.ensures))
-    c.scan_outcomes-rows.ensures.rows
+    ((λ i. scan_told s role name condition (c.listed_as-met.ensures i) c.args.read.now (tables_if condition) (rows_at_key s name (pinned_key role c.args.table.now.key condition)) (expansion_found s role (name, c.args.table.now) k.Select false (tables_if condition)))
+    ∙ c.outcomes_found.ensures.select s c.args.ctx.now c.args.select.now c.args.id c.args.table.now condition c.args.done c.args.read.now c.requires.there c.requires.decides
+    (c.in_ok-condition.ensures ∙ ap (λ (qualifier : List ℕ). option_map (resolved s ((qualifier, c.args.table.now) ∷ [])) c.args.select.now.condition) c.qualifier_of.ensures))
+    c.scan_outcomes-rows.ensures

@@ -7,6 +7,6 @@ use Rattle.rls_explain.proofs.seeing.rows_allowed.Given as goal
 
 -- those that are allowed so far, and those that are left to ask for, are all
 abbrev pub invariant-loop-stored : goal.invariant-loop-stored
-invariant-loop-stored g l =
-    let test = is_allowed (g.S.RowSource.state l.source) (shows l.context.relations.now l.context.role.now) l.context.role.now l.context.row_checks.now in
+invariant-loop-stored l =
+    let test = is_allowed l.catalog (shows l.context.relations.now l.context.role.now) l.context.role.now l.context.row_checks.now in
     rows_borrowed l.allowed ++ filter test (drop l.stored-index l.rows) ≡ filter test l.rows

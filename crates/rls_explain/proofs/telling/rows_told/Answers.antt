@@ -10,9 +10,9 @@ use Rattle.rls_explain.proofs.telling.rows_told.Goals as goal
 
 -- one row more is told
 pub loop-stored-preserved : goal.loop-stored-preserved
-loop-stored-preserved g c =
+loop-stored-preserved c =
     let judged = c.args.judged in
     let nows : List (Bor Stored) → List Stored = λ rows. map (λ row. row.now) rows in
     let left : drop c.loop-stored.stored-index c.args.rows.now ≡ c.stored-item.result ∷ drop (c.loop-stored.stored-index + 1) c.args.rows.now = grind (arith, common_steps) in
-    pushed_on (seen_row (sight_found (g.S.RowSource.state c.args.source.now) judged.relations.now judged.role.now) (over judged.role.now judged.row.now) (maybe_term c.args.condition.now)) c.stored-item.result.now
+    pushed_on (seen_row (sight_found c.args.catalog.now judged.relations.now judged.role.now) (over judged.role.now judged.row.now) (maybe_term c.args.condition.now)) c.stored-item.result.now
     (nows (drop c.loop-stored.stored-index c.args.rows.now)) (nows (drop (c.loop-stored.stored-index + 1) c.args.rows.now)) _ _ _ _ (ap nows left) c.in_ok-row_told.ensures c.in_ok-push.ensures.items c.loop-stored.invariant

@@ -6,6 +6,6 @@ use Rattle.rls_explain.proofs.telling.rows_told.Given as goal
 
 -- those that are told so far, and those that are left, are all
 abbrev pub invariant-loop-stored : goal.invariant-loop-stored
-invariant-loop-stored g l =
-    let tells = seen_row (sight_found (g.S.RowSource.state l.source) l.judged.relations.now l.judged.role.now) (over l.judged.role.now l.judged.row.now) (maybe_term l.condition) in
+invariant-loop-stored l =
+    let tells = seen_row (sight_found l.catalog l.judged.relations.now l.judged.role.now) (over l.judged.role.now l.judged.row.now) (maybe_term l.condition) in
     l.told.items ++ map tells (map (λ row. row.now) (drop l.stored-index l.rows)) ≡ map tells (map (λ row. row.now) l.rows)

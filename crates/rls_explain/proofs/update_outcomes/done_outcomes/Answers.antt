@@ -6,8 +6,8 @@ use Rattle.rls_explain.proofs.update_outcomes.done_outcomes.Goals as goal
 
 -- under the checks of the old rows
 pub returns : goal.returns
-returns g c =
-    let s = g.S.RowSource.state c.args.source.now in
+returns c =
+    let s = c.args.catalog.now in
     let name = c.args.from.name.now in
     let columns = c.args.from.table.now.columns in
     let parts = c.args.parts.now in

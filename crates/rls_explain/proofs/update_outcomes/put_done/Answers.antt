@@ -8,8 +8,8 @@ use Rattle.rls_explain.proofs.update_outcomes.put_done.Goals as goal
 
 -- one row more is told of
 pub loop-stored-preserved : goal.loop-stored-preserved
-loop-stored-preserved g c =
-    let s = g.S.RowSource.state c.args.source.now in
+loop-stored-preserved c =
+    let s = c.args.catalog.now in
     let context = c.args.context in
     let role = context.role.now in
     let sees : Shows = shows context.relations.now role in

@@ -9,16 +9,16 @@ use Rattle.rls_explain.specs.Found.{expansion_found}
 use Rattle.rls_explain.specs.FoundOutcomes.{updated_told}
 use Rattle.rls_explain.proofs.update_outcomes.updated_outcomes.Goals as goal
 
--- by the law, in the state that the source stands for
-pub returns-clause-rows : goal.returns-clause-rows
-returns-clause-rows g c =
+-- by the law
+pub returns : goal.returns
+returns c =
     let role = c.args.ctx.now.role in
     let table = c.args.table.now in
     let name = c.args.update.now.table in
     let parts = c.in_ok-parts.parts in
     subst (λ (all : List RowOutcome). IfOk c.outcomes_by-rows.result (λ rows. rows ≡ all))
-    ((λ i. updated_told (c.in_ok-parts.ensures.state i) role name table.columns parts.places.items parts.values parts.condition (c.is_some-returning.ensures i) c.args.done c.args.read.now (all_tables parts.values ++ tables_if parts.condition)
-    (rows_at_key (c.in_ok-parts.ensures.state i) name (pinned_key role table.key parts.condition)) (expansion_found (c.in_ok-parts.ensures.state i) role (name, table) k.Update c.args.reads (all_tables parts.values ++ tables_if parts.condition)))
-    ∙ c.outcomes_found.ensures.update (g.S.RowSource.state c.args.source.now) c.args.ctx.now c.args.update.now c.args.id table parts.places.items parts.values parts.condition c.args.reads c.args.done c.args.read.now c.requires.there c.requires.decides c.requires.reads
+    ((λ i. updated_told c.args.catalog.now role name table.columns parts.places.items parts.values parts.condition (c.is_some-returning.ensures i) c.args.done c.args.read.now (all_tables parts.values ++ tables_if parts.condition)
+    (rows_at_key c.args.catalog.now name (pinned_key role table.key parts.condition)) (expansion_found c.args.catalog.now role (name, table) k.Update c.args.reads (all_tables parts.values ++ tables_if parts.condition)))
+    ∙ c.outcomes_found.ensures.update c.args.catalog.now c.args.ctx.now c.args.update.now c.args.id table parts.places.items parts.values parts.condition c.args.reads c.args.done c.args.read.now c.requires.there c.requires.decides c.requires.reads
     c.in_ok-parts.ensures.places c.in_ok-parts.ensures.values c.in_ok-parts.ensures.condition)
-    c.outcomes_by-rows.ensures.rows
+    c.outcomes_by-rows.ensures
