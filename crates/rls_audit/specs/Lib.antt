@@ -8,6 +8,7 @@ pub mod Printed
 pub mod ShownParts
 pub use Rattle.rls_audit_lines
 pub use Rattle.rls_core
+pub use Rattle.rls_core.specs.rls_access
 pub use Rattle.rls_core.specs.rls_conflict
 pub use Rattle.rls_core.specs.rls_ddl
 pub use Rattle.rls_core.specs.rls_dml

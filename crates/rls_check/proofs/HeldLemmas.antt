@@ -11,7 +11,7 @@ use Rattle.rls_catalog.specs.Changed.{opening, changed_all}
 use Rattle.rls_explain.specs.rls_meaning.specs.rls_guard.specs.rls_source.specs.Footprints.{footprint_of}
 use Rattle.rls_statement.specs.declared.statement.Statement.{Statement}
 use Rattle.rls_explain.specs.rls_meaning.specs.rls_guard.specs.{declared.context.Ctx.Ctx, declared.effect.Effect.Effect, Effects.changes_of}
-use Rattle.rls_audit.specs.rls_core.specs.rls_access.specs.Transactions.{first_ctx, ctx_after}
+use Rattle.rls_audit.specs.rls_access.specs.Transactions.{first_ctx, ctx_after}
 use Rattle.rls_explain.specs.rls_meaning.specs.Meaning.{effect_of}
 use Rattle.rls_history.specs.History.{History, before, rw as edge, concurrent}
 use Rattle.rls_history.specs.Orders.{precedes, with_placed, none_placed, IsNext, StandInTurn, placed_by, IsOrder}

@@ -9,7 +9,7 @@ use Rattle.rls_expr.specs.{declared.table.Column.Column, declared.table.TableDef
 use Rattle.rls_statement.specs.declared.statement.Statement.{Statement}
 use Rattle.rls_catalog.specs.declared.change.Change.{Change}
 use Rattle.rls_explain.specs.rls_meaning.specs.rls_guard.specs.{declared.reply.Reply.Reply, declared.reply.Decision.Decision, declared.effect.Effect.Effect, Effects.changes_of}
-use Rattle.rls_audit.specs.rls_core.specs.rls_access.specs.Transactions.{Begin}
+use Rattle.rls_audit.specs.rls_access.specs.Transactions.{Begin}
 use Rattle.rls_audit.specs.rls_core.specs.Records.{Record, record_at}
 use Rattle.rls_audit.specs.rls_audit_lines.specs.declared.contents.TableShape.{TableShape}
 use Rattle.rls_audit.specs.rls_audit_lines.specs.declared.changes.Changed.{Changed}

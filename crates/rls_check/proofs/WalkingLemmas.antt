@@ -6,8 +6,8 @@ use Rattle.std.proofs.lemmas.List.{drop_more, drop_all}
 use Rattle.rls_catalog.specs.State.{State}
 use Rattle.rls_catalog.specs.Changed.{opening, changed_all}
 use Rattle.rls_explain.specs.rls_meaning.specs.rls_guard.specs.{declared.context.Ctx.Ctx, declared.effect.Effect.Effect, Effects.changes_of}
-use Rattle.rls_audit.specs.rls_core.specs.rls_access.specs.Statements.{role_after}
-use Rattle.rls_audit.specs.rls_core.specs.rls_access.specs.Transactions.{ctx_after}
+use Rattle.rls_audit.specs.rls_access.specs.Statements.{role_after}
+use Rattle.rls_audit.specs.rls_access.specs.Transactions.{ctx_after}
 use Rattle.rls_explain.specs.rls_meaning.specs.Meaning.{effect_of}
 use Rattle.rls_audit.specs.rls_core.specs.Alone.{state_alone}
 use Rattle.rls_audit.specs.rls_core.specs.Theory.{read_by}

@@ -5,7 +5,7 @@ use Rattle.rls_catalog.specs.State.{State}
 use Rattle.rls_catalog.specs.Changed.{opening, changed_all}
 use Rattle.rls_statement.specs.declared.statement.Statement.{Statement}
 use Rattle.rls_explain.specs.rls_meaning.specs.rls_guard.specs.{declared.context.Ctx.Ctx, Effects.changes_of}
-use Rattle.rls_audit.specs.rls_core.specs.rls_access.specs.Transactions.{ctx_after}
+use Rattle.rls_audit.specs.rls_access.specs.Transactions.{ctx_after}
 use Rattle.rls_explain.specs.rls_meaning.specs.Meaning.{effect_of}
 use Rattle.rls_audit.specs.rls_core.specs.Alone.{state_alone}
 use Rattle.rls_explain.specs.declared.explanation.{Explanation.Explanation, Explained.Explained, Wanted.Wanted}

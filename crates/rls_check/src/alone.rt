@@ -4,8 +4,8 @@ ghost use Rattle.std.specs.Prelude.{◌≡◌, ◌+◌, ◌++◌, [], IfOk, OnOk
 ghost use Rattle.rls_audit.specs.Lines.{in_object_order, ordered_changes};
 ghost use Rattle.rls_catalog.specs.Changed.{changed_all};
 ghost use Rattle.rls_explain.specs.rls_meaning.specs.rls_guard.specs.Effects.{changes_of};
-ghost use Rattle.rls_audit.specs.rls_core.specs.rls_access.specs.Statements.{role_after};
-ghost use Rattle.rls_audit.specs.rls_core.specs.rls_access.specs.Transactions.{first_ctx, ctx_after};
+ghost use Rattle.rls_audit.specs.rls_access.specs.Statements.{role_after};
+ghost use Rattle.rls_audit.specs.rls_access.specs.Transactions.{first_ctx, ctx_after};
 ghost use Rattle.rls_explain.specs.rls_meaning.specs.Meaning.{effect_of};
 
 use rls_audit::rls_access::{Ctx, Effect, Outcome, run_statement};

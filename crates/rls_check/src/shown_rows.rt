@@ -5,8 +5,8 @@ ghost use Rattle.rls_check.specs.ShownRows as spec;
 
 use rls_audit::rls_rows::State;
 use rls_catalog::Verdict;
-use rls_explain::{Reason, RowOutcome, RowWord, truth_word};
 use rls_explain::rls_guard::rls_source::Reading;
+use rls_explain::{Reason, RowOutcome, RowWord, truth_word};
 use rls_expr::Column;
 use rls_value::{Kind, Row, Value};
 use std::alloc::{AllocError, Global};

@@ -3,8 +3,8 @@
 ghost use Rattle.std.specs.Prelude.{◌≡◌, ◌<◌, ◌≤◌, ◌+◌, [], true, false, None, Ok, length, get_or, IfOk, IfSome, OnOk, OnErr};
 ghost use Rattle.rls_catalog.specs.Changed.{opening, changed_all};
 ghost use Rattle.rls_explain.specs.rls_meaning.specs.rls_guard.specs.Effects.{changes_of};
-ghost use Rattle.rls_audit.specs.rls_core.specs.rls_access.specs.Statements.{role_after};
-ghost use Rattle.rls_audit.specs.rls_core.specs.rls_access.specs.Transactions.{ctx_after as context_after};
+ghost use Rattle.rls_audit.specs.rls_access.specs.Statements.{role_after};
+ghost use Rattle.rls_audit.specs.rls_access.specs.Transactions.{ctx_after as context_after};
 ghost use Rattle.rls_audit.specs.rls_core.specs.Theory.{read_by};
 ghost use Rattle.rls_explain.specs.rls_meaning.specs.Meaning.{effect_of};
 ghost use Rattle.rls_check.specs.Checking.{ctx_of, state_behind, IsPlaced};

@@ -13,7 +13,6 @@ use crate::named_policies::policy_named;
 use crate::policies_written::written;
 use rls_expr::{Expr, Grantee, NamedTable, Policy, TableDef, copy_shared};
 use rls_guard::rls_catalog::{Change, Policies, find_policy, with_replaced};
-use rls_guard::rls_source::{Reads, RowSource, noted_policies, require_grantees, table_named};
 use rls_guard::rls_source::Asker;
 use rls_guard::{Ctx, Effect, require_ownership};
 use rls_statement::AlterPolicy;

@@ -7,7 +7,6 @@ ghost use Rattle.rls_ddl.specs.AlteringTables.{altered, alter_table};
 
 use rls_expr::TableDef;
 use rls_guard::rls_catalog::Change;
-use rls_guard::rls_source::{Reads, RowSource, table_named};
 use rls_guard::rls_source::Asker;
 use rls_guard::{Ctx, Effect, require_ownership};
 use rls_statement::{AlterTable, RowSecurity};

@@ -12,7 +12,6 @@ use rls_expr::{
     Expr, NameStep, NamedTable, Scope, TableDef, is_boolean, put_shared_names, resolve_columns,
     typing_of,
 };
-use rls_guard::rls_source::{Reads, RowSource};
 use rls_guard::rls_source::Asker;
 use rls_guard::{Found, is_unsupported, named_over};
 use rls_value::shared::Share;

@@ -14,7 +14,6 @@ use crate::named_policies::is_there;
 use crate::policies_written::written;
 use rls_expr::{NamedTable, Policy, TableDef};
 use rls_guard::rls_catalog::{Change, Policies, with_policy};
-use rls_guard::rls_source::{Reads, RowSource, noted_policies, require_grantees, table_named};
 use rls_guard::rls_source::Asker;
 use rls_guard::{Ctx, Effect, require_ownership};
 use rls_statement::CreatePolicy;

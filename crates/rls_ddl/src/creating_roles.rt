@@ -6,7 +6,6 @@ ghost use Rattle.rls_guard.specs.Effects.{writes};
 ghost use Rattle.rls_ddl.specs.CreatingRoles.{create_role, role_made, role_with};
 
 use rls_guard::rls_catalog::{Change, RoleDef};
-use rls_guard::rls_source::{Reads, RowSource, noted_role};
 use rls_guard::rls_source::Asker;
 use rls_guard::{Ctx, Effect, require_superuser};
 use rls_statement::CreateRole;

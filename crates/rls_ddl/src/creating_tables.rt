@@ -11,7 +11,6 @@ use crate::primary_keys::{columns_of, key_places};
 use rls_expr::TableDef;
 use rls_guard::rls_catalog::{Change, Delta, Grants};
 use rls_guard::rls_grant::{own_grants, put_grants};
-use rls_guard::rls_source::{Reads, RowSource, noted_grants, noted_table};
 use rls_guard::rls_source::Asker;
 use rls_guard::{Ctx, Effect};
 use rls_statement::CreateTable;

@@ -11,7 +11,6 @@ use crate::named_policies::policy_named;
 use crate::policies_written::written;
 use rls_expr::TableDef;
 use rls_guard::rls_catalog::{Change, Policies, without_policy};
-use rls_guard::rls_source::{Reads, RowSource, noted_policies, table_named};
 use rls_guard::rls_source::Asker;
 use rls_guard::{Ctx, Effect, require_ownership};
 use rls_statement::DropPolicy;

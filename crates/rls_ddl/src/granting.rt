@@ -5,7 +5,6 @@ ghost use Rattle.rls_ddl.specs.Granting as spec;
 
 use rls_guard::rls_grant::{grant, revoke};
 use rls_guard::rls_role::{grant_member, revoke_member};
-use rls_guard::rls_source::{Reads, RowSource};
 use rls_guard::rls_source::Asker;
 use rls_guard::{Ctx, Effect};
 use rls_statement::{GrantPrivileges, GrantRoles, RevokePrivileges, RevokeRoles};

@@ -6,9 +6,7 @@ ghost use Rattle.rls_ddl.specs.SettingRoles as spec;
 ghost use Rattle.rls_ddl.specs.SettingRoles.{asked_may_set, role_set, sets};
 
 use rls_guard::rls_catalog::Delta;
-use rls_guard::rls_role::Step;
-use rls_guard::rls_source::{Reads, RowSource, role_named};
-use rls_guard::rls_role::reaches;
+use rls_guard::rls_role::{Step, reaches};
 use rls_guard::rls_source::Asker;
 use rls_guard::{Ctx, Effect, Reply};
 use rls_statement::SetRole;

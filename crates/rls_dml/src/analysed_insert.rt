@@ -16,9 +16,8 @@ use crate::checking::{
 use rls_expr::{
     Column, Expr, NameStep, NamedTable, Scope, SelectedTable, TableDef, put_all_names, put_selected,
 };
-use rls_guard::rls_source::{Reads, RowSource};
+use rls_guard::rls_source::Asker;
 use rls_guard::{Ctx, Found, named};
-use rls_source::Asker;
 use rls_statement::{Insert, Selected};
 use rls_value::{Items, Limit, Name, Refusal};
 use std::alloc::{AllocError, Global};

@@ -19,9 +19,8 @@ use rls_expr::{
     Column, Expr, NameStep, NamedTable, Scope, SelectedTable, TableDef, put_names, put_names_if,
     put_selected, put_step, resolve_columns,
 };
-use rls_guard::rls_source::{Reads, RowSource};
+use rls_guard::rls_source::Asker;
 use rls_guard::{Found, is_unsupported_with, named_over};
-use rls_source::Asker;
 use rls_statement::{Assignment, Selected, Update};
 use rls_value::{Items, Name, Refusal};
 use std::alloc::{AllocError, Global};

@@ -8,9 +8,8 @@ use rls_expansion::PolicyExpansion;
 use rls_expr::Expr;
 use rls_guard::Decision;
 use rls_guard::rls_catalog::{BorrowedRow, Stored};
-use rls_guard::rls_source::{Reads, RowSource};
+use rls_guard::rls_source::Asker;
 use rls_judging::{CheckContext, judged, qualifying_rows_of};
-use rls_source::Asker;
 use rls_value::{Items, Name};
 use std::alloc::AllocError;
 

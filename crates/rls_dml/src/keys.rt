@@ -5,14 +5,13 @@ ghost use Rattle.std.specs.List.{list_any};
 ghost use Rattle.rls_value.specs.Values.{is_null, value_at};
 ghost use Rattle.rls_guard.specs.rls_catalog.specs.State.{rows_of};
 ghost use Rattle.rls_guard.specs.rls_source.specs.Answering.{Answers, Tells};
-ghost use Rattle.rls_source.specs.Answering.{having_read};
+ghost use Rattle.rls_guard.specs.rls_source.specs.Answering.{having_read};
 ghost use Rattle.rls_dml.specs.Writing as spec;
 ghost use Rattle.rls_dml.specs.Writing.{unique_or_refused, keys_taken, has_doubles};
 
 use crate::replaced::{Numbers, Replaced};
-use rls_guard::rls_catalog::{BorrowedRow, Stored};
-use rls_catalog::Catalog;
-use rls_source::Asker;
+use rls_guard::rls_catalog::{BorrowedRow, Catalog, Stored};
+use rls_guard::rls_source::Asker;
 use rls_value::{Name, Object, Refusal, Row, Value, cmp_values};
 use std::alloc::{AllocError, Global};
 use std::cmp::Ordering;

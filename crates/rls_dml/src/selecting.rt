@@ -20,12 +20,11 @@ use crate::writing::{checks_of, require_all};
 use rls_expansion::{PolicyExpansion, expansion_of};
 use rls_expr::{Expr, FromTable, NameStep, NamedTable, Scope, TableDef, put_names_if};
 use rls_guard::rls_catalog::{BorrowedRow, Delta};
-use rls_guard::rls_source::{Reads, RowSource, table_named};
+use rls_guard::rls_source::Asker;
 use rls_guard::{
     Ctx, Decision, Effect, Found, PermissionCheck, RolePrivileges, named_over, role_privileges_of,
 };
 use rls_judging::scanned_rows;
-use rls_source::Asker;
 use rls_statement::{Select, Selected};
 use rls_value::{Items, Kind, Name, Privilege, Refusal, Row};
 use std::alloc::{AllocError, Global};

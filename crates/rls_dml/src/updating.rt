@@ -23,10 +23,9 @@ use rls_evaluation::{Datum, Scoped};
 use rls_expansion::{PolicyExpansion, expansion_of};
 use rls_expr::{FromTable, TableDef};
 use rls_guard::rls_catalog::{BorrowedRow, Change, Delta, Keyed, RowChange, Stored};
-use rls_guard::rls_source::{Reads, RowSource, table_named};
+use rls_guard::rls_source::Asker;
 use rls_guard::{Ctx, Decision, Effect, PermissionCheck, RolePrivileges, role_privileges_of};
 use rls_judging::{assignments_of, scanned_rows};
-use rls_source::Asker;
 use rls_statement::Update;
 use rls_value::{Items, Kind, Name, Privilege, Refusal};
 use std::alloc::{AllocError, Global};
@@ -132,7 +131,13 @@ fn update_with_quals<'c, 'x>(
     requires { columns_read ≡ spec.update_columns_read from.table.now analysed_update.now }
     ensures { Answers (spec.update_with_quals role_privileges.now expansion.now analysed_update.now role.now from.entry.name.now from.entry.table.now) asker.old asker.new result }
 {
-    let checks = checks(asker.alloc(), from, expansion, analysed_update, columns_read)?;
+    let checks = checks(
+        asker.alloc(),
+        from,
+        expansion,
+        analysed_update,
+        columns_read,
+    )?;
     require_all(asker, role_privileges, checks)?;
     let rows = scanned_rows(asker, role, from, &analysed_update.condition)?;
     update_qualifying_rows(

@@ -14,9 +14,8 @@ use crate::replaced::Replaced;
 use rls_evaluation::{Datum, allows};
 use rls_expr::{Column, FromTable, SelectedTable, copies, put_if};
 use rls_guard::rls_catalog::{Stored, Verdict};
-use rls_guard::rls_source::{Reads, RowSource};
+use rls_guard::rls_source::Asker;
 use rls_guard::{Decision, PermissionCheck, RolePrivileges};
-use rls_source::Asker;
 use rls_value::{Items, Name, Privilege, Refusal, Row, Value, Why};
 use std::alloc::{AllocError, Global};
 

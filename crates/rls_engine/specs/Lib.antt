@@ -8,4 +8,5 @@ pub mod Steps
 pub mod Knows
 pub mod Drafts
 pub use Rattle.rls_core
+pub use Rattle.rls_core.specs.rls_access
 pub use Rattle.rls_core.specs.rls_conflict

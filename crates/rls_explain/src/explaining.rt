@@ -98,7 +98,9 @@ fn explained_in(
     ensures { IfOk result (λ explained. explained ≡ spec.explained_in catalog.now ctx.now statement.now wanted) }
 {
     match wanted {
-        Some(wanted) => { explain_own(alloc, catalog, ctx, statement, decisions_of(effect), wanted) }
+        Some(wanted) => {
+            explain_own(alloc, catalog, ctx, statement, decisions_of(effect), wanted)
+        }
         None => Ok(Items::new(alloc)),
     }
 }

@@ -141,7 +141,15 @@ fn explain_under<'c, 'x>(
     let columns = from.table.columns.as_slice();
     let explained = explain_tuples(alloc, catalog, ctx, context, columns, parts, wanted)?;
     let relations = expansion.relations.as_slice();
-    detailed_if(alloc, catalog, wanted.long, role, from, relations, explained)
+    detailed_if(
+        alloc,
+        catalog,
+        wanted.long,
+        role,
+        from,
+        relations,
+        explained,
+    )
 }
 
 /// The rows are numbered on from the transaction's next.

@@ -34,7 +34,14 @@ pub fn put_rows<'a, 'c>(
 {
     for stored in rows {
         if is_wanted(wanted, stored.id()) {
-            put_row(alloc, catalog, context, stored.id(), stored.row(), explained)?;
+            put_row(
+                alloc,
+                catalog,
+                context,
+                stored.id(),
+                stored.row(),
+                explained,
+            )?;
         }
     }
     Ok(())

@@ -11,8 +11,8 @@ ghost use Rattle.rls_explain.specs.Found as spec;
 
 use rls_expr::{Column, Expr, FromTable, NamedTable, Scope, TableDef, resolve_columns};
 use rls_meaning::rls_expansion::{put_all_tables, put_tables, put_tables_if};
-use rls_meaning::rls_guard::rls_catalog::Catalog;
 use rls_meaning::rls_guard::Found;
+use rls_meaning::rls_guard::rls_catalog::Catalog;
 use rls_statement::{Assignment, Insert, Update};
 use rls_value::{Items, Name};
 use std::alloc::{AllocError, Global};

@@ -195,5 +195,13 @@ fn explain_under<'c, 'x>(
     )?;
     drop(rows);
     let relations = expansion.relations.as_slice();
-    detailed_if(alloc, catalog, wanted.long, role, from, relations, explained)
+    detailed_if(
+        alloc,
+        catalog,
+        wanted.long,
+        role,
+        from,
+        relations,
+        explained,
+    )
 }

@@ -160,11 +160,7 @@ fn where_on<'a, 'c>(
 }
 
 /// The columns of the table; none where there is no table.
-fn columns_of(
-    alloc: Global,
-    catalog: &Catalog,
-    name: &Name,
-) -> Result<Items<Column>, AllocError>
+fn columns_of(alloc: Global, catalog: &Catalog, name: &Name) -> Result<Items<Column>, AllocError>
     ensures { IfOk result (λ columns. columns ≡ spec.columns_of (table_of catalog.now name.now)) }
 {
     match catalog.table(name) {

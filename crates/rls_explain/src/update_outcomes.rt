@@ -181,7 +181,15 @@ fn ended_outcomes<'c, 'x>(
             rows.as_slice(),
         )
     } else {
-        refused_outcomes(alloc, catalog, role, from, parts, expansion, rows.as_slice())
+        refused_outcomes(
+            alloc,
+            catalog,
+            role,
+            from,
+            parts,
+            expansion,
+            rows.as_slice(),
+        )
     }
 }
 
@@ -414,15 +422,7 @@ fn refused_outcomes<'c, 'x>(
         rows,
         &mut outcomes,
     )?;
-    put_refused(
-        alloc,
-        catalog,
-        new,
-        from,
-        parts,
-        &qualifying,
-        &mut outcomes,
-    )?;
+    put_refused(alloc, catalog, new, from, parts, &qualifying, &mut outcomes)?;
     Ok(Items::from_vec(outcomes))
 }
 

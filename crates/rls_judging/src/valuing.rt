@@ -13,8 +13,7 @@ use rls_evaluation::{
 };
 use rls_guard::rls_catalog::BorrowedRow;
 use rls_guard::rls_catalog::rls_expr::Expr;
-use rls_value::{Items, Name};
-use rls_value::or_drop;
+use rls_value::{Items, Name, or_drop};
 use std::alloc::{AllocError, Global};
 
 /// What the rows are set to, in the order of the assignments, one row's values behind another's. No row is in scope round

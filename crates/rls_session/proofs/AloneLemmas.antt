@@ -14,7 +14,7 @@ use Rattle.rls_engine.specs.rls_core.specs.rls_guard.specs.rls_catalog.specs.Cha
 use Rattle.rls_script.specs.rls_guard.specs.{declared.context.Mode.Mode, declared.effect.Effect.Effect}
 use Rattle.rls_value.specs.declared.refusal.Refusal.{Refusal}
 use Rattle.rls_statement.specs.declared.statement.Statement.{Statement}
-use Rattle.rls_engine.specs.rls_core.specs.rls_access.specs.Transactions.{first_ctx}
+use Rattle.rls_engine.specs.rls_access.specs.Transactions.{first_ctx}
 use Rattle.rls_history.specs.History.{History, before, concurrent, rw as edge}
 use Rattle.rls_history.specs.Orders.{precedes, with_placed, none_placed, IsNext, StandInTurn, placed_by, IsOrder}
 use Rattle.rls_engine.specs.rls_conflict.specs.Transactions.{Transaction, at}

@@ -4,7 +4,7 @@ use Rattle.std.specs.List.{All}
 use Rattle.std.proofs.{Common.subst, Common.sym, lemmas.Option.none-some, lemmas.Option.same_Some, lemmas.List.Elements.All-head, lemmas.List.Elements.All-nil, lemmas.List.Elements.All-push, lemmas.List.Elements.All-tail}
 use Rattle.rls_statement.specs.declared.statement.Statement.{Statement}
 use Rattle.rls_script.specs.rls_guard.specs.Effects.{changes_of}
-use Rattle.rls_engine.specs.rls_core.specs.rls_access.specs.{Statements.effect_in, Transactions.Begin, Transactions.first_ctx, Transactions.may_begin}
+use Rattle.rls_engine.specs.rls_access.specs.{Statements.effect_in, Transactions.Begin, Transactions.first_ctx, Transactions.may_begin}
 use Rattle.rls_engine.specs.rls_core.specs.{Events.Event, Events.Rules, Events.Running, Events.World, Events.begin, Events.commit, Events.happens, Events.is_taken, Events.post, Events.posted_in, Events.run, Events.seen_by, Events.with_running, Headline.AfterEvents, Headline.AreSafe, Records.Record, Records.history_by, Records.new_record, Records.state_after, Seen.Seen, Seen.core_rules, Seen.world_of}
 use Rattle.rls_engine.specs.rls_core.specs.Events.Event.{Begins, Posts, Commits, RollsBack}
 use Rattle.rls_engine.specs.Led.{IsLed, PostsAsked}

@@ -11,7 +11,7 @@ use Rattle.rls_script.specs.rls_guard.specs.{declared.context.Mode.Mode, declare
 use Rattle.rls_script.specs.rls_guard.specs.declared.context.Mode.TheVariants as m
 use Rattle.rls_script.specs.rls_guard.specs.declared.effect.Effect.TheVariants as e
 use Rattle.rls_script.specs.rls_guard.specs.declared.reply.Reply.TheVariants as p
-use Rattle.rls_engine.specs.rls_core.specs.rls_access.specs.{Statements.role_after, Transactions.Begin}
+use Rattle.rls_engine.specs.rls_access.specs.{Statements.role_after, Transactions.Begin}
 use Rattle.rls_engine.specs.Drafts.{RefusesBegin, told_of}
 use Rattle.rls_script.specs.Requests.{AsksOf, Requests}
 use Rattle.rls_script.specs.declared.answer.Answer.{Answer}

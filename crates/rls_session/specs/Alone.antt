@@ -2,7 +2,7 @@
 use Rattle.std.specs.Prelude.{◌≡◌, ℕ, List, [], ◌∷◌, All}
 use Rattle.std.specs.Str.Lines.{lines}
 use Rattle.rls_engine.specs.rls_core.specs.rls_guard.specs.rls_catalog.specs.State.{State}
-use Rattle.rls_engine.specs.rls_core.specs.rls_access.specs.Transactions.{first_ctx}
+use Rattle.rls_engine.specs.rls_access.specs.Transactions.{first_ctx}
 use Rattle.rls_engine.specs.rls_core.specs.Alone.{effects_alone, state_alone}
 use Rattle.rls_script.specs.Lines.{IsRead}
 use Rattle.rls_script.specs.declared.line.Line.{Line}

@@ -10,7 +10,7 @@ use Rattle.rls_script.specs.rls_guard.specs.{declared.context.Mode.Mode, declare
 use Rattle.rls_script.specs.rls_guard.specs.declared.context.Mode.TheVariants as m
 use Rattle.rls_script.specs.rls_guard.specs.declared.effect.Effect.TheVariants as e
 use Rattle.rls_script.specs.rls_guard.specs.declared.reply.Reply.TheVariants as p
-use Rattle.rls_engine.specs.rls_core.specs.rls_access.specs.{Statements.role_after, Transactions.Begin}
+use Rattle.rls_engine.specs.rls_access.specs.{Statements.role_after, Transactions.Begin}
 use Rattle.rls_script.specs.{Requests.Requests, Requests.AsksOf, Requests.as_request, declared.answer.Answer.Answer, declared.requesting.Ask.Ask, declared.requesting.Request.Request, declared.requesting.Status.Status}
 use Rattle.rls_script.specs.declared.answer.Answer.TheVariants as a
 use Rattle.rls_script.specs.declared.requesting.Ask.TheVariants as ask

@@ -6,7 +6,7 @@ use Rattle.rls_value.specs.declared.refusal.Cause.{Cause}
 use Rattle.rls_script.specs.rls_guard.specs.declared.effect.Effect.{Effect}
 use Rattle.rls_script.specs.rls_guard.specs.declared.reply.Reply.{Reply}
 use Rattle.rls_statement.specs.declared.statement.Statement.{Statement}
-use Rattle.rls_engine.specs.rls_core.specs.rls_access.specs.Transactions.{Begin}
+use Rattle.rls_engine.specs.rls_access.specs.Transactions.{Begin}
 use Rattle.rls_engine.specs.Drafts.{RefusesBegin, told_of}
 use Rattle.rls_script.specs.declared.answer.Answer.{Answer}
 use Rattle.rls_script.specs.declared.answer.Answer.TheVariants as a

@@ -1,5 +1,5 @@
 use Rattle.std.proofs.Common.{drop}
-use Rattle.rls_source.specs.Answering.{Leads}
+use Rattle.rls_guard.specs.rls_source.specs.Answering.{Leads}
 use Rattle.rls_dml.specs.Writing.{permissions_or_denied}
 use Rattle.rls_dml.proofs.writing.require_permissions.Given as goal
 
