@@ -1,6 +1,6 @@
 //! One statement.
 
-ghost use Rattle.std.specs.Prelude.{◌≡◌, ◌++◌, IfOk, OnOk, OnErr};
+ghost use Rattle.std.specs.Prelude.{◌≡◌, IfOk, OnOk, OnErr};
 ghost use Rattle.rls_value.specs.Giving.{Gives};
 ghost use Rattle.rls_guard.specs.rls_catalog.specs.State.{State, AgreesOn};
 ghost use Rattle.rls_guard.specs.rls_source.specs.{Footprints.footprint_of, Answering.Answers, Answering.having_read};

@@ -16,7 +16,7 @@ use crate::shown_rows::{row_text, row_word};
 use crate::shown_texts::is_seen;
 use crate::tallies::{is_denied_row, is_shown_row, is_written_row};
 use rls_audit::rls_rows::State;
-use rls_explain::rls_guard::rls_source::RowSource;
+use rls_explain::rls_guard::rls_source::Reading;
 use rls_explain::{Explained, RowOutcome, RowWord};
 use rls_expr::Column;
 use rls_value::{Name, Row, RowId, Value};

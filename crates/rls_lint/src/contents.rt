@@ -10,7 +10,7 @@ ghost use Rattle.rls_lint.specs.Naming.{IsNamed};
 use crate::named::Named;
 use rls_catalog::BorrowedRow;
 use rls_equality::{Same, are_both_same, are_same};
-use rls_meaning::rls_guard::rls_source::RowSource;
+use rls_meaning::rls_guard::rls_source::Reading;
 use rls_rows::State;
 use rls_value::Name;
 use std::alloc::{AllocError, Global};

@@ -2,7 +2,7 @@
 
 use crate::script::Script;
 use rls_expr::{Expr, Node};
-use rls_meaning::rls_guard::rls_source::RowSource;
+use rls_meaning::rls_guard::rls_source::Reading;
 use rls_printing::print_expr;
 use rls_rows::State;
 use rls_value::{Name, Value};

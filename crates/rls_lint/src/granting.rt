@@ -3,7 +3,7 @@
 use crate::script::Script;
 use rls_catalog::Grant;
 use rls_expr::Grantee;
-use rls_meaning::rls_guard::rls_source::RowSource;
+use rls_meaning::rls_guard::rls_source::Reading;
 use rls_rows::State;
 use rls_value::{Name, Privilege};
 use std::alloc::{AllocError, Global};

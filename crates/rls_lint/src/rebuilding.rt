@@ -6,7 +6,7 @@ use crate::named::Named;
 use crate::script::{Script, is_postgres};
 use rls_catalog::{Membership, RoleDef};
 use rls_expr::{NamedTable, TableDef};
-use rls_meaning::rls_guard::rls_source::RowSource;
+use rls_meaning::rls_guard::rls_source::Reading;
 use rls_printing::print_policy;
 use rls_rows::State;
 use rls_value::{Items, Name};
