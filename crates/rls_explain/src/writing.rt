@@ -44,7 +44,7 @@ pub fn row_written<'a, 'c>(
     written
 }
 
-/// The same, while the source is looked at.
+/// The same, over tables that are looked at.
 fn write_row<'a, 'c, T: Tables>(
     alloc: Global,
     tables: &mut T,
