@@ -1,5 +1,6 @@
 use Rattle.std.specs.Vec.Iter.{into_iter_items}
-use Rattle.std.proofs.Common.{rules, ◌≡◌, [], ◌∷◌}
+use Rattle.std.proofs.Common.{rules, ◌≡◌, [], ◌∷◌, length}
+use Rattle.std.proofs.lemmas.List.{nil_from_length}
 use Rattle.rlsdb.proofs.ShownAttemptLemmas.{found_all, found_on, written_on}
 use Rattle.rlsdb.proofs.shown_attempts.show_each.Goals as goal
 
@@ -18,5 +19,6 @@ loop-one-preserved g c =
 pub returns-clause-found : goal.returns-clause-found
 returns-clause-found g c =
     let at = c.loop-one in
-    let none : into_iter_items at.one-iterator ≡ [] = search rules in
+    let none_long : length (into_iter_items at.one-iterator) ≡ 0 = search rules in
+    let none : into_iter_items at.one-iterator ≡ [] = nil_from_length _ none_long in
     found_all (into_iter_items at.one-iterator) c.args.begun.items at.found none at.invariant.found
