@@ -81,8 +81,10 @@ along wanted transactions numbers its begun found other old new are same grew di
   fact = inl (
     are.0,
     are.1,
-    ap (attempts_text wanted) are.2.begun,
-    (begun.differs, other, are.2.differs, subst (λ them. FirstDiffers (standings_of_all them) other) are.2.begun differs, ap (λ it. e.Ran it other) same),
+    (
+      ap (attempts_text wanted) are.2.begun,
+      (begun.differs, other, are.2.differs, subst (λ them. FirstDiffers (standings_of_all them) other) are.2.begun differs, ap (λ it. e.Ran it other) same),
+    ),
   );
 }
 
@@ -109,7 +111,7 @@ pub shown : (old new : List ℕ) (audit : Audit) (attempts : List Attempt) (want
     → GrewBy old new (λ written. AreAttemptsShown wanted audit.transactions audit.order attempts written ending) → GrewBy old new (λ written. (texts : List (List ℕ)) × (others : List (List ℕ)) × AreAttemptsShownOf wanted texts others written ending)
 shown old new audit attempts wanted ending read tried grew =
     grew_more old new (λ written. AreAttemptsShown wanted audit.transactions audit.order attempts written ending) (λ written. (texts : List (List ℕ)) × (others : List (List ℕ)) × AreAttemptsShownOf wanted texts others written ending)
-    (λ written are. (read.0, tried.0, audit, attempts, read.1, tried.1, are)) grew
+    (λ written are. (read.0, tried.0, (audit, attempts, read.1, tried.1, are))) grew
 
 -- and how it ended, where the filter is the one that is asked for
 pub ended : (old new : List ℕ) (it made : ShownFilter) (ending : AttemptsEnd) (whole : Bool) → made ≡ it → GrewBy old new (λ written. (texts : List (List ℕ)) × (others : List (List ℕ)) × AreAttemptsShownOf made texts others written ending) → whole ≡ is_all_shown ending
