@@ -76,7 +76,8 @@ WHOLE = {
     "run_script": "read_script run_script_keeping run_script_telling write_answer",
     "run_threads": "Notes::join Plan::into_parts read_plan run_threads_keeping run_threads_telling",
     "request_of": "", "write_report": "", "findings": "Finding::line Named::follow Named::opening have_same_contents rebuilding_script",
-    "write_attempt": "line_of_attempt read_attempt", "Audit::graph": "", "Audit::list": "", "Audit::page": "Page::foot Page::head Page::turn Page::walk",
+    "write_attempt": "line_of_attempt read_attempt", "Audit::begin_attempts": "AttemptReader::finish AttemptReader::line Begun::shown",
+    "Audit::graph": "", "Audit::list": "", "Audit::page": "Page::foot Page::head Page::turn Page::walk",
     "Audit::placed": "", "Listing::next": "", "Why::long_lines": "", "write_numbered": "wheres_of",
 }
 

@@ -23,6 +23,9 @@ pub mod ShownObjectLemmas
 pub mod ListingLemmas
 pub mod LongPartLemmas
 pub mod GraphWorkLemmas
+pub mod AttemptLemmas
+pub mod SnapshotLemmas
+pub mod ShownAttemptLemmas
 pub mod GraphSetLemmas
 pub mod GraphEdgeLemmas
 pub mod GraphDrawnLemmas

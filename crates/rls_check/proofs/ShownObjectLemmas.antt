@@ -7,6 +7,7 @@ use Rattle.rls_value.specs.declared.value.Value.{Value}
 use Rattle.rls_statement.specs.declared.statement.Statement.{Statement}
 use Rattle.rls_codec.specs.CodecLaws.{both_false}
 use Rattle.rls_audit.specs.rls_audit_lines.specs.ValueCodecs.{row}
+use Rattle.rls_audit.specs.rls_audit_lines.specs.declared.attempts.AttemptEnd.{AttemptEnd}
 use Rattle.rls_explain.specs.declared.outcome.{Reason.Reason, RowOutcome.RowOutcome}
 use Rattle.rls_explain.specs.rls_meaning.specs.rls_guard.specs.{declared.context.Ctx.Ctx, declared.effect.Effect.Effect}
 use Rattle.rls_check.specs.ShownObjects.{data_before, reason_data, row_data, statement_data}
@@ -26,8 +27,9 @@ pub rows_plain : (rows : List RowOutcome) → items_have_float (items_of (map ro
 rows_plain [] = refl
 rows_plain (one ∷ rows) = both_false (row_plain one) (rows_plain rows)
 
-pub statement_plain : (n : ℕ) (ctx : Ctx) (asked : Statement) (effect : Effect) (rows : List RowOutcome) → has_float (statement_data n ctx asked effect rows) ≡ false
-statement_plain n ctx asked effect rows = both_false (rows_plain rows) refl
+pub statement_plain : (ended : Option AttemptEnd) (n : ℕ) (ctx : Ctx) (asked : Statement) (effect : Effect) (rows : List RowOutcome) → has_float (statement_data ended n ctx asked effect rows) ≡ false
+statement_plain None n ctx asked effect rows = both_false (rows_plain rows) refl
+statement_plain (Some ended) n ctx asked effect rows = both_false (rows_plain rows) refl
 
 -- what is given under a condition that holds is given
 pub given_plainly : {X E : Type 0} (r : Result X E) (A : Type 0) (P : X → Type 0) → A → IfOk r (λ x. A → P x) → IfOk r P

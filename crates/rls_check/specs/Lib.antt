@@ -9,6 +9,7 @@ pub mod Findings
 pub mod WhyTexts
 pub mod ShownFilters
 pub mod ShownRows
+pub mod AttemptTexts
 pub mod ShownObjects
 pub mod ShownTexts
 pub mod ShownAudits
@@ -22,6 +23,9 @@ pub mod GraphLabels
 pub mod GraphTexts
 pub mod Graphs
 pub mod GraphSteps
+pub mod Attempts
+pub mod Snapshots
+pub mod ShownAttempts
 pub mod Pieces
 pub mod Tallies
 pub mod Plots

@@ -8,6 +8,7 @@ use Rattle.rls_catalog.specs.State.{State}
 use Rattle.rls_statement.specs.{declared.statement.Statement.Statement, Tags.tag_of}
 use Rattle.rls_statement.specs.declared.statement.Statement.TheVariants as statement
 use Rattle.rls_audit.specs.Printed.{printed_text}
+use Rattle.rls_audit.specs.rls_audit_lines.specs.declared.attempts.AttemptEnd.{AttemptEnd}
 use Rattle.rls_explain.specs.declared.outcome.{RowWord.RowWord, RowOutcome.RowOutcome}
 use Rattle.rls_explain.specs.declared.outcome.RowWord.TheVariants as w
 use Rattle.rls_explain.specs.Outcomes.{outcomes_with}
@@ -15,6 +16,7 @@ use Rattle.rls_explain.specs.rls_meaning.specs.rls_guard.specs.{declared.context
 use Rattle.rls_check.specs.declared.filtering.ShownFilter.{ShownFilter}
 use Rattle.rls_check.specs.declared.walking.Turn.{Turn}
 use Rattle.rls_audit.specs.rls_printing.specs.Escaped.{escaped_line}
+use Rattle.rls_check.specs.AttemptTexts.{ended_text}
 use Rattle.rls_check.specs.ShownFilters.{is_asked_in, is_narrow, is_wanted}
 use Rattle.rls_check.specs.ShownObjects.{object_line}
 use Rattle.rls_check.specs.ShownRows.{row_text, row_word}
@@ -53,12 +55,28 @@ target_of (statement.Update asked) = Some asked.table
 target_of (statement.Delete asked) = Some asked.table
 target_of asked = None
 
+-- whose statement it is: that of a transaction, or of an attempt, where it is said how it ended
+abbrev pub owner_word : Option AttemptEnd → List ℕ
+owner_word None = codes "txn"
+owner_word (Some ended) = codes "attempt"
+
 -- who ran which statement
-abbrev pub head_line : ℕ → Ctx → Statement → List ℕ
-head_line number ctx asked = codes "txn " ++ (decimal ctx.txn ++ (codes " statement " ++ (decimal number ++ (codes " role " ++ (ctx.role ++ (codes ": " ++ printed_text asked))))))
+abbrev pub head_with : List ℕ → ℕ → Ctx → Statement → List ℕ
+head_with owner number ctx asked = owner ++ (codes " " ++ (decimal ctx.txn ++ (codes " statement " ++ (decimal number ++ (codes " role " ++ (ctx.role ++ (codes ": " ++ printed_text asked)))))))
+
+abbrev pub head_line : Option AttemptEnd → ℕ → Ctx → Statement → List ℕ
+head_line ended number ctx asked = head_with (owner_word ended) number ctx asked
 
 abbrev pub reply_line : Statement → Effect → List ℕ
 reply_line asked effect = codes "reply: " ++ came_text (tag_of asked) effect
+
+-- how its attempt ended; no line of a transaction
+abbrev pub ended_line : AttemptEnd → List ℕ
+ended_line ended = codes "ended: " ++ ended_text ended
+
+abbrev pub ended_lines : Option AttemptEnd → List ℕ
+ended_lines None = []
+ended_lines (Some ended) = escaped_line (ended_line ended)
 
 -- how many there are
 abbrev pub rows_word : ℕ → List ℕ
@@ -119,29 +137,37 @@ rows_text it s table rows =
     else all_text s (filter is_told rows) ++ (counts_text table rows ++ seen_text s (filter is_seen rows))
 
 -- its lines, with these rows
-abbrev pub lines_of : ShownFilter → ℕ → State → Ctx → Statement → Effect → List ℕ → List RowOutcome → List ℕ
-lines_of it number s ctx asked effect table rows = escaped_line (head_line number ctx asked) ++ (escaped_line (reply_line asked effect) ++ rows_text it s table rows)
+abbrev pub lines_of : Option AttemptEnd → ShownFilter → ℕ → State → Ctx → Statement → Effect → List ℕ → List RowOutcome → List ℕ
+lines_of ended it number s ctx asked effect table rows =
+    escaped_line (head_line ended number ctx asked) ++ (escaped_line (reply_line asked effect) ++ (ended_lines ended ++ rows_text it s table rows))
 
 -- its lines or its object, with these rows; nothing where it has none of the rows that are asked for
-abbrev pub block_of : ShownFilter → ℕ → State → Ctx → Statement → Effect → List ℕ → List RowOutcome → List ℕ
-block_of it number s ctx asked effect table rows =
+abbrev pub block_of : Option AttemptEnd → ShownFilter → ℕ → State → Ctx → Statement → Effect → List ℕ → List RowOutcome → List ℕ
+block_of ended it number s ctx asked effect table rows =
     if is_narrow it && nat_eq (length rows) 0 then []
-    else if it.json then object_line number ctx asked effect rows
-    else lines_of it number s ctx asked effect table rows
+    else if it.json then object_line ended number ctx asked effect rows
+    else lines_of ended it number s ctx asked effect table rows
 
 -- none of a statement that isn't about rows, or isn't asked for
-abbrev pub block_if : ShownFilter → ℕ → State → Ctx → Statement → Effect → List Object → Option (List ℕ) → List ℕ
-block_if it number s ctx asked effect read None = []
-block_if it number s ctx asked effect read (Some table) = if is_asked_in it ctx then block_of it number s ctx asked effect table (filter (is_wanted it) (outcomes_with s ctx asked effect read)) else []
+abbrev pub block_if : Option AttemptEnd → ShownFilter → ℕ → State → Ctx → Statement → Effect → List Object → Option (List ℕ) → List ℕ
+block_if ended it number s ctx asked effect read None = []
+block_if ended it number s ctx asked effect read (Some table) = if is_asked_in it ctx then block_of ended it number s ctx asked effect table (filter (is_wanted it) (outcomes_with s ctx asked effect read)) else []
 
 -- what is written of the statement of this number, in this state and context, that comes to this and reads these objects
-abbrev pub block_text : ShownFilter → ℕ → State → Ctx → Statement → Effect → List Object → List ℕ
-block_text it number s ctx asked effect read = block_if it number s ctx asked effect read (target_of asked)
+abbrev pub block_text : Option AttemptEnd → ShownFilter → ℕ → State → Ctx → Statement → Effect → List Object → List ℕ
+block_text ended it number s ctx asked effect read = block_if ended it number s ctx asked effect read (target_of asked)
 
 -- the same of a turn
-abbrev pub turn_text : ShownFilter → Turn → List ℕ
-turn_text it turn = block_text it turn.number turn.before turn.ctx turn.statement turn.outcome.effect turn.outcome.footprint
+abbrev pub text_of_turn : Option AttemptEnd → ShownFilter → Turn → List ℕ
+text_of_turn ended it turn = block_text ended it turn.number turn.before turn.ctx turn.statement turn.outcome.effect turn.outcome.footprint
 
 -- and of all
+abbrev pub text_of_all : Option AttemptEnd → ShownFilter → List Standing → List ℕ
+text_of_all ended it standings = flat_map (λ standing. block_text ended it standing.number standing.before standing.ctx standing.shown.statement standing.effect standing.reads) standings
+
+-- both of transactions
+abbrev pub turn_text : ShownFilter → Turn → List ℕ
+turn_text it turn = text_of_turn None it turn
+
 abbrev pub shown_text : ShownFilter → List Standing → List ℕ
-shown_text it standings = flat_map (λ standing. block_text it standing.number standing.before standing.ctx standing.shown.statement standing.effect standing.reads) standings
+shown_text it standings = text_of_all None it standings

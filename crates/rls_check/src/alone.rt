@@ -170,7 +170,11 @@ pub(crate) fn state_after(
 }
 
 /// The changes of the effect behind those before.
-fn push_changes(alloc: Global, changes: &mut Delta, effect: &Effect) -> Result<(), AllocError>
+pub(crate) fn push_changes(
+    alloc: Global,
+    changes: &mut Delta,
+    effect: &Effect,
+) -> Result<(), AllocError>
     ensures { OnOk result (changes.new ≡ changes.old ++ changes_of effect.now) }
 {
     match effect {

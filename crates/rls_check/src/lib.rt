@@ -2,6 +2,7 @@
 #![tactic(auto)]
 
 mod alone;
+mod attempts;
 mod audit;
 mod checking;
 mod converting;
@@ -35,9 +36,11 @@ mod placed;
 mod plot;
 mod progress;
 mod running;
+mod shown_attempts;
 mod shown_objects;
 mod shown_rows;
 mod shown_texts;
+mod snapshots;
 mod stored;
 mod survey;
 mod tallies;
@@ -47,6 +50,7 @@ mod walked;
 mod walking;
 mod works;
 
+pub use attempts::{Attempt, AttemptReader, missing_attempt};
 pub use audit::{Audit, Reader};
 pub use converting::Converter;
 pub use explaining::Why;
@@ -66,7 +70,9 @@ pub use progress::{Progress, Silent};
 pub use rls_agreement;
 pub use rls_audit;
 pub use rls_explain::{rls_guard, rls_meaning};
+pub use shown_attempts::AttemptsEnd;
 pub use shown_texts::Ending;
+pub use snapshots::{Attempts, Begun};
 pub use transaction::{Answer, Put, Transaction};
 pub use walked::walks_tell_the_run;
 pub use walking::{Turn, Walk};

@@ -1,6 +1,7 @@
 //! What a statement did with rows, as lines.
 
 ghost use Rattle.std.specs.Prelude.{◌≡◌, ◌++◌, [], nat_lt, if◌then◌else◌, option_map, filter, length, map, IfOk, OnOk};
+ghost use Rattle.std.specs.Option.{option_copied};
 ghost use Rattle.rls_audit.specs.rls_printing.specs.Escaped.{escaped_line};
 ghost use Rattle.rls_check.specs.ShownFilters.{is_wanted};
 ghost use Rattle.rls_check.specs.ShownRows.{row_text as spec_row_text};
@@ -8,15 +9,16 @@ ghost use Rattle.rls_check.specs.ShownTexts as spec;
 ghost use Rattle.rls_check.specs.Walking.{IsMeant};
 ghost use Rattle.rls_explain.specs.Outcomes.{outcomes_in};
 
+use crate::attempts::ended_text;
 use crate::filtering::ShownFilter;
 use crate::finding::Finding;
 use crate::shown_objects::push_object;
 use crate::shown_rows::{row_text, row_word};
 use crate::texts::came_text;
 use crate::walking::Turn;
-use rls_audit::printed;
 use rls_audit::rls_printing::push_escaped_line;
 use rls_audit::rls_rows::State;
+use rls_audit::{AttemptEnd, printed};
 use rls_explain::{RowOutcome, RowWord, outcomes};
 use rls_statement::Statement;
 use rls_value::{Items, Name};
@@ -43,12 +45,27 @@ impl Turn {
         ensures { IfOk result (λ text. text.items ≡ spec.turn_text wanted.now self.now) }
     {
         let mut text = Vec::new(alloc);
+        self.push_shown(alloc, wanted, None, &mut text)?;
+        Ok(text)
+    }
+
+    /// The same behind the text; of an attempt that ended so.
+    pub(crate) fn push_shown(
+        &self,
+        alloc: Global,
+        wanted: &ShownFilter,
+        ended: Option<&AttemptEnd>,
+        text: &mut Vec<u8>,
+    ) -> Result<(), AllocError>
+        requires { IsMeant self.now }
+        ensures { OnOk result (text.new.items ≡ text.old.items ++ spec.text_of_turn (option_copied ended.entry) wanted.now self.now) }
+    {
         if let Some(table) = target_of(self.statement.get()) {
             if wanted.asks_for(&self.ctx) {
-                self.push_block(alloc, wanted, table, &mut text)?;
+                return self.push_block(alloc, wanted, ended, table, text);
             }
         }
-        Ok(text)
+        Ok(())
     }
 
     /// Its lines or its object.
@@ -56,14 +73,15 @@ impl Turn {
         &self,
         alloc: Global,
         wanted: &ShownFilter,
+        ended: Option<&AttemptEnd>,
         table: &Name,
         text: &mut Vec<u8>,
     ) -> Result<(), AllocError>
         requires { IsMeant self.now }
-        ensures { OnOk result (text.new.items ≡ text.old.items ++ spec.block_of wanted.now self.now.number self.now.before self.now.ctx self.now.statement self.now.outcome.effect table.now (filter (is_wanted wanted.now) (outcomes_in self.now.before self.now.ctx self.now.statement self.now.outcome.footprint))) }
+        ensures { OnOk result (text.new.items ≡ text.old.items ++ spec.block_of (option_copied ended.entry) wanted.now self.now.number self.now.before self.now.ctx self.now.statement self.now.outcome.effect table.now (filter (is_wanted wanted.now) (outcomes_in self.now.before self.now.ctx self.now.statement self.now.outcome.footprint))) }
     {
         let rows = self.rows_wanted(alloc, wanted)?;
-        self.push_those(alloc, wanted, table, rows.as_slice(), text)
+        self.push_those(alloc, wanted, ended, table, rows.as_slice(), text)
     }
 
     /// The same with these rows.
@@ -71,18 +89,19 @@ impl Turn {
         &self,
         alloc: Global,
         wanted: &ShownFilter,
+        ended: Option<&AttemptEnd>,
         table: &Name,
         rows: &[RowOutcome],
         text: &mut Vec<u8>,
     ) -> Result<(), AllocError>
-        ensures { OnOk result (text.new.items ≡ text.old.items ++ spec.block_of wanted.now self.now.number self.now.before self.now.ctx self.now.statement self.now.outcome.effect table.now rows.now) }
+        ensures { OnOk result (text.new.items ≡ text.old.items ++ spec.block_of (option_copied ended.entry) wanted.now self.now.number self.now.before self.now.ctx self.now.statement self.now.outcome.effect table.now rows.now) }
     {
         if wanted.is_narrow() && rows.len() == 0 {
             Ok(())
         } else if wanted.json {
-            push_object(alloc, self, rows, text)
+            push_object(alloc, self, ended, rows, text)
         } else {
-            self.push_lines(alloc, wanted, table, rows, text)
+            self.push_lines(alloc, wanted, ended, table, rows, text)
         }
     }
 
@@ -90,14 +109,16 @@ impl Turn {
         &self,
         alloc: Global,
         wanted: &ShownFilter,
+        ended: Option<&AttemptEnd>,
         table: &Name,
         rows: &[RowOutcome],
         text: &mut Vec<u8>,
     ) -> Result<(), AllocError>
-        ensures { OnOk result (text.new.items ≡ text.old.items ++ spec.lines_of wanted.now self.now.number self.now.before self.now.ctx self.now.statement self.now.outcome.effect table.now rows.now) }
+        ensures { OnOk result (text.new.items ≡ text.old.items ++ spec.lines_of (option_copied ended.entry) wanted.now self.now.number self.now.before self.now.ctx self.now.statement self.now.outcome.effect table.now rows.now) }
     {
-        self.push_head(alloc, text)?;
+        self.push_head(alloc, owner_word(ended), text)?;
         self.push_reply(alloc, text)?;
+        push_end(alloc, ended, text)?;
         self.push_rows(alloc, wanted, table, rows, text)
     }
 
@@ -122,14 +143,15 @@ impl Turn {
         those_wanted(alloc, wanted, rows)
     }
 
-    fn push_head(&self, alloc: Global, text: &mut Vec<u8>) -> Result<(), AllocError>
-        ensures { OnOk result (text.new.items ≡ text.old.items ++ escaped_line (spec.head_line self.now.number self.now.ctx self.now.statement)) }
+    /// Whose statement it is, by this word, and who ran it.
+    fn push_head(&self, alloc: Global, owner: &str, text: &mut Vec<u8>) -> Result<(), AllocError>
+        ensures { OnOk result (text.new.items ≡ text.old.items ++ escaped_line (spec.head_with owner.now self.now.number self.now.ctx self.now.statement)) }
     {
         let txn = self.ctx.txn;
         let number = self.number;
         let role = &self.ctx.role;
         let printed = printed(alloc, self.statement.get())?;
-        let line = format!(in alloc; "txn {txn} statement {number} role {role}: {printed}")?;
+        let line = format!(in alloc; "{owner} {txn} statement {number} role {role}: {printed}")?;
         drop(printed);
         push_escaped_line(text, line.as_str())
     }
@@ -161,6 +183,34 @@ impl Turn {
         push_counts(alloc, table, rows, text)?;
         push_seen(alloc, &self.before, rows, text)
     }
+}
+
+fn owner_word(ended: Option<&AttemptEnd>) -> &'static str
+    ensures { result.now ≡ spec.owner_word (option_copied ended.entry) }
+{
+    match ended {
+        Some(_) => "attempt",
+        None => "txn",
+    }
+}
+
+/// How the attempt ended, on a line; nothing of a transaction.
+fn push_end(alloc: Global, ended: Option<&AttemptEnd>, text: &mut Vec<u8>) -> Result<(), AllocError>
+    ensures { OnOk result (text.new.items ≡ text.old.items ++ spec.ended_lines (option_copied ended.entry)) }
+{
+    match ended {
+        Some(ended) => push_ended(alloc, ended, text),
+        None => Ok(()),
+    }
+}
+
+fn push_ended(alloc: Global, ended: &AttemptEnd, text: &mut Vec<u8>) -> Result<(), AllocError>
+    ensures { OnOk result (text.new.items ≡ text.old.items ++ escaped_line (spec.ended_line ended.now)) }
+{
+    let how = ended_text(alloc, ended)?;
+    let line = format!(in alloc; "ended: {how}")?;
+    drop(how);
+    push_escaped_line(text, line.as_str())
 }
 
 /// Those of the rows that are asked for.

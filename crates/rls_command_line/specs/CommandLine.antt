@@ -116,7 +116,7 @@ abbrev pub json_flag : Rule
 json_flag = record (new_rule (codes "json")) { long = Some (codes "json"); action = Some SetTrue }
 
 abbrev pub shown_line : App
-shown_line = with_rule (with_rule (with_rule (with_rule (with_rule (with_rule (with_rule (with_rule (with_rule (new_app (codes "shown")) (needed (codes "AUDIT"))) (many_option (codes "role"))) (many_option (codes "login"))) (many_option (codes "txn"))) (many_option (codes "table"))) (many_option (codes "row"))) denied_flag) all_flag) json_flag
+shown_line = with_rule (with_rule (with_rule (with_rule (with_rule (with_rule (with_rule (with_rule (with_rule (with_rule (new_app (codes "shown")) (needed (codes "AUDIT"))) (many_option (codes "role"))) (many_option (codes "login"))) (many_option (codes "txn"))) (many_option (codes "table"))) (many_option (codes "row"))) denied_flag) all_flag) json_flag) attempts_option
 
 abbrev pub lint_line : App
 lint_line = with_rule (with_rule (new_app (codes "lint")) (needed (codes "AUDIT"))) after_option
@@ -289,7 +289,8 @@ AsksFor name rows (q.Order audit) = (name ≡ codes "order") × (first_of (codes
 AsksFor name rows (q.OrderLong audit) = (name ≡ codes "order") × (first_of (codes "AUDIT") rows ≡ Some audit.now) × IsFlag (codes "long") rows true
 AsksFor name rows (q.Check it) = (name ≡ codes "check") × IsChecks rows it
 AsksFor name rows (q.Explain it) = (name ≡ codes "explain") × IsExplain rows it
-AsksFor name rows (q.Shown it) = (name ≡ codes "shown") × IsShownLine rows it
+AsksFor name rows (q.Shown it) = (name ≡ codes "shown") × IsShownLine rows it × (first_of (codes "attempts") rows ≡ None)
+AsksFor name rows (q.ShownAttempts it out) = (name ≡ codes "shown") × IsShownLine rows it × (first_of (codes "attempts") rows ≡ Some out.now)
 AsksFor name rows (q.Lint it) = (name ≡ codes "lint") × IsAuditState rows it
 AsksFor name rows (q.Dump it) = (name ≡ codes "dump") × IsAuditState rows it
 AsksFor name rows (q.Graph it) = (name ≡ codes "graph") × IsGraph rows it

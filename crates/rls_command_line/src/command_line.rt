@@ -107,7 +107,7 @@ const TWICE: &str = "a file that can be read twice";
 
 const FILLED: &str = "with --write, a file";
 
-const KEPT: &str = "a file";
+pub const KEPT: &str = "a file";
 
 pub const ROW: &str = "T.N with decimal numbers up to 18446744073709551615 and 4294967295";
 

@@ -4,11 +4,11 @@ ghost use Rattle.std.specs.Prelude.{◌≡◌, [], false, map, codes, unwrap_or,
 ghost use Rattle.std.specs.List.{AllZip};
 ghost use Rattle.clap.specs.Words.{all_of, app_of, found_of, rows_of, rule_of};
 ghost use Rattle.clap.specs.declared.builder.command.Command.TheViews.{out-Command};
-ghost use Rattle.rls_command_line.specs.CommandLine.{AsksFor, IsNameOf, IsNumberOf, IsOwn, all_flag, denied_flag, json_flag, many_option, shown_line};
+ghost use Rattle.rls_command_line.specs.CommandLine.{AsksFor, IsNameOf, IsNumberOf, IsOwn, all_flag, attempts_option, denied_flag, json_flag, many_option, shown_line};
 ghost use Rattle.rls_command_line.specs.CommandLine as spec;
 ghost use Rattle.rls_command_line.specs.Words.{IsRowText};
 
-use crate::command_line::{Mistake, NUMBER, ROW, audit, flag, named, value};
+use crate::command_line::{KEPT, Mistake, NUMBER, ROW, audit, flag, given, named, value};
 use crate::words::{Request, Shown, Wanted, number_of, row_of};
 use clap::{Arg, ArgAction, ArgMatches, Command};
 use rls_value::{Items, Name, Refusal, RowId};
@@ -31,6 +31,9 @@ Rows that are hidden, barred or skipped are counted, and of those that could be 
 --table, --row or --all each is written on its line, and with --json in an object a statement. An option that is repeated means
 `or`; different options mean `and`.
 
+With --attempts it does the same with the transactions of OUT, which `run --attempts OUT` wrote beside AUDIT: they ended without a
+commit. Each runs alone, on the state after the commits of AUDIT that it began behind, and has `attempt` for `txn`, and how it ended.
+
 Example: rlsdb shown AUDIT --role ann --denied";
 
 const NAME: &str = "a name";
@@ -40,10 +43,18 @@ pub fn shown_of<'a>(alloc: Global, words: &ArgMatches<'a>) -> Result<Request<'a>
     ensures ok { IfOk result (AsksFor (codes "shown") (rows_of (found_of words.now))) }
     ensures err { IfErr result IsOwn }
 {
-    Ok(Request::Shown(Shown {
+    let shown = Shown {
         audit: value(words, "AUDIT")?,
         wanted: wanted_of(alloc, words)?,
-    }))
+    };
+    if let Some(out) = given(words, "attempts") {
+        if out == "-" {
+            drop(shown);
+            return Err(Mistake::Value("--attempts <OUT>", "-", KEPT));
+        }
+        return Ok(Request::ShownAttempts(shown, out));
+    }
+    Ok(Request::Shown(shown))
 }
 
 /// Which statements and rows they ask for.
@@ -185,6 +196,7 @@ pub fn shown_command<'a>(alloc: Global) -> Result<Command<'a>, AllocError>
     let command = command.arg(denied(alloc))?;
     let command = command.arg(all(alloc))?;
     let command = command.arg(json(alloc))?;
+    let command = command.arg(attempts(alloc))?;
     Ok(command)
 }
 
@@ -265,4 +277,14 @@ fn json<'a>(alloc: Global) -> Arg<'a>
         .long("json")
         .action(ArgAction::SetTrue)
         .help("Write an object a statement, with all rows")
+}
+
+fn attempts<'a>(alloc: Global) -> Arg<'a>
+    ensures rule { rule_of result ≡ attempts_option }
+    ensures local { result.global ≡ false }
+{
+    Arg::new(alloc, "attempts")
+        .long("attempts")
+        .value_name("OUT")
+        .help("Of the transactions of this file, which ended without a commit")
 }

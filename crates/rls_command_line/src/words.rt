@@ -142,6 +142,8 @@ pub enum Request<'a> {
     Check(Checks<'a>),
     Explain(Explain<'a>),
     Shown(Shown<'a>),
+    /// The same of the transactions in this file, which ended without a commit.
+    ShownAttempts(Shown<'a>, &'a str),
     Lint(AuditState<'a>),
     Dump(AuditState<'a>),
     Graph(Graphed<'a>),

@@ -14,4 +14,5 @@ pub mod NumberLemmas
 pub mod ParsingLemmas
 pub mod ReportLemmas
 pub mod ShownLemmas
+pub mod ShownAttemptLemmas
 pub mod TestLemmas

@@ -48,7 +48,7 @@ pub written_all : (it : Unlisted) (bytes whole : List ℕ) → it.places ≡ [] 
 written_all it bytes whole none so_far = sym (append-nil bytes) ∙ ap (λ rest. bytes ++ rest) (sym (none_left it none)) ∙ so_far
 
 -- what differs first among some, or else among those behind them, differs first among all
-differs_on : (front behind : List Standing) (found rest : Option Finding) → FirstDiffers front found → FirstDiffers behind rest → FirstDiffers (front ++ behind) (first_or found rest)
+pub differs_on : (front behind : List Standing) (found rest : Option Finding) → FirstDiffers front found → FirstDiffers behind rest → FirstDiffers (front ++ behind) (first_or found rest)
 differs_on [] behind found rest none differs = subst (λ one. FirstDiffers behind (first_or one rest)) (sym none) differs
 differs_on (it ∷ front) behind found rest first differs =
     elim first [

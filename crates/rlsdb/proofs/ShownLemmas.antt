@@ -54,8 +54,8 @@ first_or None other = other
 
 -- what a turn writes is what its statement does
 turn_told : (it : ShownFilter) (standing : Standing) (turn : Turn) → IsTurn standing turn
-    → block_text it standing.number standing.before standing.ctx standing.shown.statement standing.effect standing.reads ≡ turn_text it turn
-turn_told it standing turn is = λ i. block_text it (sym is.number i) (sym is.before i) (sym is.ctx i) (sym is.statement i) (sym is.effect i) (sym is.reads i)
+    → block_text None it standing.number standing.before standing.ctx standing.shown.statement standing.effect standing.reads ≡ turn_text it turn
+turn_told it standing turn is = λ i. block_text None it (sym is.number i) (sym is.before i) (sym is.ctx i) (sym is.statement i) (sym is.effect i) (sym is.reads i)
 
 next_told : (it : ShownFilter) (turn : Turn) (before after : List Standing) → IsNext before turn after → shown_text it before ≡ turn_text it turn ++ shown_text it after
 next_told it turn [] after is = absurd is

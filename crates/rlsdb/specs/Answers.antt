@@ -4,6 +4,7 @@ use Rattle.std.specs.Borrow.{Bor}
 use Rattle.std.specs.Fmt.{decimal}
 use Rattle.rls_check.specs.rls_meaning.specs.rls_guard.specs.rls_catalog.specs.rls_value.specs.declared.row.RowId.{RowId}
 use Rattle.rls_check.specs.rls_audit.specs.rls_core.specs.Records.{Record}
+use Rattle.rls_check.specs.declared.attempts.Attempt.{Attempt}
 use Rattle.rls_check.specs.declared.audit.Audit.{Audit}
 use Rattle.rls_check.specs.declared.finding.Finding.{Finding}
 use Rattle.rls_check.specs.declared.finding.Finding.TheVariants as f
@@ -16,10 +17,14 @@ use Rattle.rls_check.specs.declared.filtering.ShownFilter.{ShownFilter}
 use Rattle.rls_check.specs.declared.graph_form.GraphForm.{GraphForm}
 use Rattle.rls_check.specs.declared.graph_form.Picture.{Picture}
 use Rattle.rls_check.specs.declared.graph_form.Picture.TheVariants as p
+use Rattle.rls_check.specs.declared.shown_attempts.AttemptsEnd.{AttemptsEnd}
+use Rattle.rls_check.specs.declared.shown_attempts.AttemptsEnd.TheVariants as attempts_end
 use Rattle.rls_check.specs.declared.shown_texts.Ending.{Ending}
 use Rattle.rls_check.specs.declared.shown_texts.Ending.TheVariants as e
 use Rattle.rls_check.specs.declared.walking.Turn.{Turn}
 use Rattle.rls_check.specs.Listing.{IsLong}
+use Rattle.rls_check.specs.Attempts.{AreAttempts}
+use Rattle.rls_check.specs.ShownAttempts.{AreAttemptsShown}
 use Rattle.rls_check.specs.ShownAudits.{IsShown}
 use Rattle.rls_check.specs.{LongTexts.long_text, Placed.placed_in, WhyTexts.explanation_text, declared.placed.Placed.Placed}
 use Rattle.rls_session.specs.Parts.{Tried}
@@ -142,6 +147,16 @@ filter_of it = record { roles = it.roles; logins = it.logins; txns = it.txns; ta
 abbrev pub IsShownOf : ShownFilter → List (List ℕ) → List ℕ → Ending → Type 0
 IsShownOf it texts written ending = (audit : Audit) × IsAuditOf texts audit × IsShown it audit.transactions audit.order written ending
 
+-- the same of the attempts whose lines the others are, beside this audit
+abbrev pub AreAttemptsShownOf : ShownFilter → (texts others : List (List ℕ)) → List ℕ → AttemptsEnd → Type 0
+AreAttemptsShownOf it texts others written ending =
+    (audit : Audit) × (attempts : List Attempt) × IsAuditOf texts audit × AreAttempts (length audit.transactions) others attempts × AreAttemptsShown it audit.transactions audit.order attempts written ending
+
+-- all statements came to what the audit and the attempts show
+abbrev pub is_all_shown : AttemptsEnd → Bool
+is_all_shown (attempts_end.Ran None None) = true
+is_all_shown ending = false
+
 -- the transactions of the audit whose lines these are, along its order, with what their statements come to, and how it ended
 abbrev pub IsLongOf : List (List ℕ) → List ℕ → Ending → Type 0
 IsLongOf texts written ending = (audit : Audit) × IsAuditOf texts audit × IsLong audit.transactions audit.order written ending
@@ -212,6 +227,8 @@ Answers (q.Check it) written done =
     (made : List ℕ) × AreChecked (nat_lt 1 (length it.audits.items)) (map (λ name. name.now) it.audits.items) made done × (written ≡ answered_part (not it.quiet) made)
 Answers (q.Explain asked) written done = (texts : List (List ℕ)) × IsWhyOf asked.txn asked.statement asked.row asked.long texts written done
 Answers (q.Shown asked) written done = (texts : List (List ℕ)) × (ending : Ending) × IsShownOf (filter_of asked.wanted) texts written ending × (done ≡ is_whole ending)
+Answers (q.ShownAttempts asked out) written done =
+    (texts : List (List ℕ)) × (others : List (List ℕ)) × (ending : AttemptsEnd) × AreAttemptsShownOf (filter_of asked.wanted) texts others written ending × (done ≡ is_all_shown ending)
 Answers (q.Lint asked) written done = (texts : List (List ℕ)) × (ending : StateEnd) × IsLintOf asked.after texts written ending × (done ≡ is_all_right ending)
 Answers (q.Dump asked) written done = (texts : List (List ℕ)) × (ending : StateEnd) × IsDumpOf asked.after texts written ending × (done ≡ is_all_right ending)
 Answers (q.Graph asked) written done = (texts : List (List ℕ)) × (ending : Ending) × IsGraphOf (form_of asked.wanted) texts written ending × (done ≡ is_whole ending)

@@ -52,6 +52,11 @@ abbrev pub ended_fault : Bor (List ℕ) → Fault → Fault
 ended_fault name (fault.BadLine number) = fault.BadAudit name number flaw.NoEnd
 ended_fault name other = other
 
+-- the same of a line of a file of attempts
+abbrev pub attempt_fault : Bor (List ℕ) → Fault → Fault
+attempt_fault name (fault.BadLine number) = fault.BadAudit name number flaw.NoAttempt
+attempt_fault name other = other
+
 -- the exit status: 3 for a bad line, or 1 where that can't be written; 2 where a file would be written over itself, or a transcript has an answer without a command; else 1
 abbrev pub EndsWith : Fault → ℕ → Type 0
 EndsWith (fault.BadLine line) status = (status ≡ 3) ⊎ (status ≡ 1)

@@ -35,6 +35,7 @@ IsFlaw number line flaw.NoHead = number ≡ 1
 IsFlaw number line flaw.NoLine = (¬ IsLineIn true line) × (¬ IsLineIn false line)
 IsFlaw number line flaw.Misplaced = IsLineIn true line ⊎ IsLineIn false line
 IsFlaw number line flaw.NoEnd = ⊥
+IsFlaw number line flaw.NoAttempt = ⊥
 
 -- in words
 abbrev pub flaw_text : Flaw → Option (List ℕ)
@@ -45,3 +46,4 @@ flaw_text flaw.NoHead = Some (codes "not the head of an audit in format 1 or 2")
 flaw_text flaw.NoLine = Some (codes "its JSON, a key, a value or a statement is wrong")
 flaw_text flaw.Misplaced = Some (codes "out of place: its format, txn, commit, snap or end is wrong, or the audit ended before")
 flaw_text flaw.NoEnd = Some (codes "missing: an audit ends with its serial order")
+flaw_text flaw.NoAttempt = Some (codes "no line of attempts: its JSON, a key, a value or a statement is wrong, or its snap is above the commits of AUDIT")

@@ -74,6 +74,7 @@ impl<I: ScriptIn + Drop> AuditIn<I> {
         Err(RunFault::Read)
     }
 
+    #[inline(always)]
     fn next_byte(&mut self) -> Result<Option<u8>, RunFault>
         ensures byte { IfOk result (λ byte. I.given self.new.input ≡ I.given self.old.input ++ option_to_list byte) }
         ensures end { IfOk result (λ byte. IsNone byte → I.ended self.new.input ≡ true) }

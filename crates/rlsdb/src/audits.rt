@@ -551,7 +551,10 @@ fn convert_line<'a, O: ScriptOut>(
 }
 
 /// The fault, or that the rest can't be read where a line is bad.
-fn first_of<'a, I: ScriptIn + Drop>(input: &mut AuditIn<I>, fault: Fault<'a>) -> Fault<'a>
+pub(crate) fn first_of<'a, I: ScriptIn + Drop>(
+    input: &mut AuditIn<I>,
+    fault: Fault<'a>,
+) -> Fault<'a>
     ensures { IsToldOf fault.entry (I.ended input.new.input) result }
 {
     match fault {

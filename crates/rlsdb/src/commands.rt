@@ -13,7 +13,7 @@ use crate::fault::Fault;
 use crate::progress::ProgressLine;
 use crate::{
     attempting, audits, dumping, graphing, hinting, linting, listing, numbering, reporting,
-    running, shown, stopping, testing,
+    running, shown, shown_attempts, stopping, testing,
 };
 use clap::error::ErrorKind;
 use rls_command_line::{
@@ -128,7 +128,7 @@ fn serve<'a, W: Threads + Wait + Clock + Sync, D: Write + Drop>(
 }
 
 /// Does what is asked for.
-#[tactic(auto, using(crate::proofs::CommandLemmas::ran, crate::proofs::CommandLemmas::ordered, crate::proofs::ListingLemmas::answered_long, crate::proofs::CommandLemmas::checked, crate::proofs::CommandLemmas::explained, crate::proofs::ShownLemmas::answered_shown, crate::proofs::LintLemmas::answered_lint, crate::proofs::DumpLemmas::answered_dump, crate::proofs::GraphLemmas::answered_graph, crate::proofs::ReportLemmas::answered_report, crate::proofs::CommandLemmas::migrated, crate::proofs::CommandLemmas::parsed, crate::proofs::TestLemmas::tests_answered, crate::proofs::TestLemmas::stop_answered, crate::proofs::NumberLemmas::numbers_answered, crate::proofs::AttemptLemmas::attempts_answered))]
+#[tactic(auto, using(crate::proofs::CommandLemmas::ran, crate::proofs::CommandLemmas::ordered, crate::proofs::ListingLemmas::answered_long, crate::proofs::CommandLemmas::checked, crate::proofs::CommandLemmas::explained, crate::proofs::ShownLemmas::answered_shown, crate::proofs::ShownAttemptLemmas::answered_attempts, crate::proofs::LintLemmas::answered_lint, crate::proofs::DumpLemmas::answered_dump, crate::proofs::GraphLemmas::answered_graph, crate::proofs::ReportLemmas::answered_report, crate::proofs::CommandLemmas::migrated, crate::proofs::CommandLemmas::parsed, crate::proofs::TestLemmas::tests_answered, crate::proofs::TestLemmas::stop_answered, crate::proofs::NumberLemmas::numbers_answered, crate::proofs::AttemptLemmas::attempts_answered))]
 fn answer<'a, W: Threads + Wait + Clock + Sync, D: Write + Drop>(
     rt: &HostRuntime,
     waits: &W,
@@ -151,6 +151,9 @@ fn answer<'a, W: Threads + Wait + Clock + Sync, D: Write + Drop>(
         Request::Check(checks) => Ok(check(rt, &checks, output)?),
         Request::Explain(asked) => Ok(audits::explain(rt, asked, output)?),
         Request::Shown(asked) => Ok(shown::shown(rt, asked, output)?),
+        Request::ShownAttempts(asked, out) => {
+            Ok(shown_attempts::shown_attempts(rt, asked, out, output)?)
+        }
         Request::Lint(asked) => Ok(linting::lint(rt, asked, output)?),
         Request::Dump(asked) => Ok(dumping::dump(rt, waits, asked, output)?),
         Request::Graph(asked) => Ok(graphing::graph(rt, asked, output)?),

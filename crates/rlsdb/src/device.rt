@@ -123,6 +123,7 @@ impl<R: Read + Drop> ScriptIn for DeviceIn<R> {
 
     ghost ended = { λ device. device.ended };
 
+    #[inline(always)]
     fn next_byte(&mut self) -> Result<Option<u8>, Failed>
         ensures byte { IfOk result (λ byte. self.new.given.bytes ≡ self.old.given.bytes ++ option_to_list byte) }
         ensures end { IfOk result (λ byte. IsNone byte → self.new.ended ≡ true) }

@@ -6,7 +6,7 @@ ghost use Rattle.std.specs.declared.io.ErrorKind.TheVariants.{OutOfMemory};
 ghost use Rattle.rls_session.specs.rls_script.specs.declared.fault.RunFault.TheVariants.{NoMemory, Foreign, Write};
 ghost use Rattle.rls_check.specs.rls_audit.specs.rls_audit_lines.specs.declared.unshown.Unshown.TheVariants.{Never};
 ghost use Rattle.rlsdb.specs.declared.fault.Fault.TheVariants.{Ended};
-ghost use Rattle.rlsdb.specs.Faults.{IsFlawed, ended_fault, line_fault, named_fault, unread_fault, unwritten_fault};
+ghost use Rattle.rlsdb.specs.Faults.{IsFlawed, attempt_fault, ended_fault, line_fault, named_fault, unread_fault, unwritten_fault};
 
 use crate::flaw::{Flaw, flaw_of};
 use rls_check::rls_audit::Unshown;
@@ -174,6 +174,16 @@ impl<'a> Fault<'a> {
     {
         match self {
             Fault::BadLine(number) => Fault::BadAudit(name, number, Flaw::NoEnd),
+            fault => fault,
+        }
+    }
+
+    /// The same of a line of a file of attempts.
+    pub fn of_attempts(self, name: &'a str) -> Fault<'a>
+        ensures { result ≡ attempt_fault name.entry self.entry }
+    {
+        match self {
+            Fault::BadLine(number) => Fault::BadAudit(name, number, Flaw::NoAttempt),
             fault => fault,
         }
     }

@@ -26,6 +26,8 @@ pub enum Flaw {
     Misplaced,
     /// It is the one behind the end, and the last line is missing.
     NoEnd,
+    /// It is none of a file of attempts.
+    NoAttempt,
 }
 
 impl Flaw {
@@ -43,6 +45,9 @@ impl Flaw {
                 "out of place: its format, txn, commit, snap or end is wrong, or the audit ended before",
             ),
             Flaw::NoEnd => Some("missing: an audit ends with its serial order"),
+            Flaw::NoAttempt => Some(
+                "no line of attempts: its JSON, a key, a value or a statement is wrong, or its snap is above the commits of AUDIT",
+            ),
         }
     }
 }

@@ -26,6 +26,7 @@ mod running;
 mod same_file;
 mod script_file;
 mod shown;
+mod shown_attempts;
 mod stopping;
 mod testing;
 
