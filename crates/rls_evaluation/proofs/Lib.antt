@@ -4,6 +4,7 @@ pub mod Absorbing
 pub mod OuterColumnsLemmas
 pub mod OuterValueLemmas
 pub mod CachedSubplanLemmas
+pub mod CachedVerdictLemmas
 pub mod RelationLemmas
 pub mod Exempting
 pub mod LoopLemmas

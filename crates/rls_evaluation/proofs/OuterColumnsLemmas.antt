@@ -233,7 +233,7 @@ item_if_same one other item another s met same =
     λ i. read_then (met i) (λ is. if is then read_then (same i) (λ v. unread (Ok (Some v))) else unread (Ok None))
 
 mutual
-  value_same : (named : ℕ → ℕ → Bool) (t : Term) (sees : Shows) (a b : Environment) (s : State) → IsSameAt named a b → stays_in named t ≡ true → (value_of t sees a).in_state s ≡ (value_of t sees b).in_state s
+  pub value_same : (named : ℕ → ℕ → Bool) (t : Term) (sees : Shows) (a b : Environment) (s : State) → IsSameAt named a b → stays_in named t ≡ true → (value_of t sees a).in_state s ≡ (value_of t sees b).in_state s
   value_same named (Literal v) sees a b s same is = refl
   value_same named (Column name) sees a b s same is = refl
   value_same named (Var at) sees a b s same is = ap (λ v. unread (Ok v)) (same.values at.level at.column is)

@@ -15,6 +15,7 @@ pub mod Tableless
 pub mod Wides
 pub mod ValueSets
 pub mod CachedSubplans
+pub mod CachedVerdicts
 pub mod Matching
 pub mod CachedIndexes
 pub mod Holding

@@ -1,9 +1,13 @@
--- The columns further out that a subquery names: what it gives hangs on the rows in scope through their values alone.
+-- The columns further out that a subquery names, and those that quals name: what they come to hangs on the rows in scope
+-- through their values alone.
 use Rattle.std.specs.Prelude.{ℕ, zero, suc, nat_eq, List, [], ◌∷◌, Bool, true, false, ◌&&◌, ◌||◌, map}
 use Rattle.rls_value.specs.declared.value.Value.{Value}
 use Rattle.rls_value.specs.Values.{value_at}
+use Rattle.rls_source.specs.rls_catalog.specs.rls_expr.specs.declared.policy.Policy.{Policy}
 use Rattle.rls_source.specs.rls_catalog.specs.rls_expr.specs.Terms.{Term, Terms, Query, Literal, Column, Var, CurrentUser, Compare, And, Or, Not, IsNull, IsNotNull, InList, NotInList, Exists, InSubquery, NotInSubquery, Scalar, Sum, End, More, Select}
 use Rattle.rls_evaluation.specs.declared.outer_columns.OuterColumn.{OuterColumn}
+use Rattle.rls_evaluation.specs.declared.relation.SecurityQuals.{SecurityQuals}
+use Rattle.rls_evaluation.specs.declared.relation.SecurityQuals.TheVariants.{Exempt, Policies}
 use Rattle.rls_evaluation.specs.Environments.{Environment, row_at}
 
 -- the column is one of them
@@ -49,3 +53,13 @@ abbrev mutual
   -- a subquery has one table more
   pub query_in : (ℕ → ℕ → Bool) → Query → Bool
   query_in named (Select from key selects items condition) = stay_in (within named) items && stay_in (within named) condition
+
+-- each condition is so
+abbrev pub conditions_in : (ℕ → ℕ → Bool) → List (Policy × Term) → Bool
+conditions_in named [] = true
+conditions_in named (condition ∷ conditions) = stays_in named condition.1 && conditions_in named conditions
+
+-- each condition of the quals is so
+abbrev pub quals_in : (ℕ → ℕ → Bool) → SecurityQuals → Bool
+quals_in named Exempt = true
+quals_in named (Policies conditions) = conditions_in named conditions

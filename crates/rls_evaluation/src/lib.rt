@@ -3,6 +3,7 @@
 
 mod cached_index;
 mod cached_subplan;
+mod cached_verdicts;
 mod datum;
 mod deciding;
 mod evaluation;
@@ -19,6 +20,7 @@ mod tableless;
 mod tables;
 mod value_set;
 
+pub use cached_verdicts::CachedVerdicts;
 pub use datum::Datum;
 pub use evaluation::{eval, meets_condition, verdict_on};
 pub use execution_state::ExecutionState;

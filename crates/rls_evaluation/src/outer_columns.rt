@@ -1,4 +1,4 @@
-//! The columns further out that a subquery names.
+//! The columns further out that a subquery names, and those of the row that quals name.
 
 ghost use Rattle.std.specs.Prelude.{◌≡◌};
 ghost use Rattle.rls_source.specs.rls_catalog.specs.rls_expr.specs.ExprTerms.{query_of};
@@ -6,7 +6,9 @@ ghost use Rattle.rls_source.specs.rls_catalog.specs.rls_expr.specs.Terms.{maybe_
 ghost use Rattle.rls_evaluation.specs.OuterColumns as spec;
 ghost use Rattle.rls_evaluation.specs.Depths.{named_in};
 
-use rls_source::rls_catalog::rls_expr::{Expr, Node, Subquery, Var};
+use crate::relation::SecurityQuals;
+use rls_source::rls_catalog::rls_expr::{Expr, Node, Policy, Subquery, Var};
+use rls_value::Reference;
 use std::alloc::{AllocError, Global};
 
 /// A column of the row in scope so many levels up, seen from outside the subquery.
@@ -29,6 +31,29 @@ pub fn names_only(columns: &[OuterColumn], query: &Subquery) -> bool
     ensures { result ≡ spec.query_in (spec.is_among columns.now) (query_of query.now) }
 {
     query_in(query, &Inside::Outer(columns))
+}
+
+/// Whether the quals name no columns but these, and have no sum: what they say is the same of each row that has the same
+/// values there.
+pub fn quals_name_only(columns: &[OuterColumn], quals: &SecurityQuals) -> bool
+    ensures { result ≡ spec.quals_in (spec.is_among columns.now) quals.now }
+{
+    match quals {
+        SecurityQuals::Exempt => true,
+        SecurityQuals::Policies(conditions) => conditions_in(conditions.as_slice(), columns),
+    }
+}
+
+fn conditions_in(conditions: &[(Reference<'_, Policy>, Expr)], columns: &[OuterColumn]) -> bool
+    ensures { result ≡ spec.conditions_in (spec.is_among columns.now) conditions.now }
+{
+    let tables = Inside::Outer(columns);
+    for (_, condition) in conditions {
+        if !stays_in(condition, &tables) {
+            return false;
+        }
+    }
+    true
 }
 
 /// Inside the subquery its own table is in scope too.
@@ -110,6 +135,20 @@ fn is_among(columns: &[OuterColumn], level: usize, column: usize) -> bool
 pub fn named_columns(alloc: Global, query: &Subquery) -> Result<Vec<OuterColumn>, AllocError> {
     let mut columns = Vec::new(alloc);
     put_of_query(&mut columns, query, &Inside::Outer(&[]))?;
+    Ok(columns)
+}
+
+/// The columns of the row that the quals name, each once. `quals_name_only` tells whether they are all.
+pub fn columns_of_quals(
+    alloc: Global,
+    quals: &SecurityQuals,
+) -> Result<Vec<OuterColumn>, AllocError> {
+    let mut columns = Vec::new(alloc);
+    if let SecurityQuals::Policies(conditions) = quals {
+        for (_, condition) in conditions.as_slice() {
+            put_of(&mut columns, condition, &Inside::Outer(&[]))?;
+        }
+    }
     Ok(columns)
 }
 

@@ -1,15 +1,17 @@
 -- What is told of rows, one after another.
 use Rattle.std.specs.{declared.alloc.AllocError.AllocError}
-use Rattle.std.specs.Prelude.{◌≡◌, refl, ℕ, List, [], ◌∷◌, ◌++◌, Bool, true, false, ◌&&◌, Result, Ok, Err, map, drop, length, get_or, ◌<◌, ◌≤◌, ◌+◌}
+use Rattle.std.specs.Prelude.{◌≡◌, refl, ℕ, List, [], ◌∷◌, ◌++◌, Bool, true, false, ◌&&◌, Result, Ok, Err, OnOk, map, drop, length, get_or, ◌<◌, ◌≤◌, ◌+◌}
 use Rattle.std.proofs.Common.{ap, arith, sym, ◌∙◌, subst, append-nil, append_assoc}
 use Rattle.std.proofs.lemmas.Bool.{true≢false}
 use Rattle.rls_value.specs.{declared.refusal.Refusal.Refusal, declared.row.RowId.RowId, declared.object.Object.Object, declared.value.Value.Value, Giving.and_then}
 use Rattle.rls_guard.specs.rls_catalog.specs.rls_expr.specs.Terms.{Terms}
 use Rattle.rls_guard.specs.rls_catalog.specs.{State.State, declared.stored.Stored.Stored, declared.verdict.Verdict.Verdict}
 use Rattle.rls_evaluation.specs.rls_source.specs.{Footprints.with_reads, Footprints.IsInOrder, Readings.unread, Readings.next_reads, Askings.Asking, Askings.known, Askings.followed_by}
-use Rattle.rls_evaluation.specs.{Eval.Shows, Showing.allows, Showing.verdict_on, Gathering.gathered, Holding.Evaluates}
+use Rattle.rls_evaluation.specs.{declared.relation.SecuredRelation.SecuredRelation, declared.relation.SecurityQuals.SecurityQuals, declared.cached_verdicts.CachedVerdicts.CachedVerdicts, declared.execution_state.ExecutionState.ExecutionState}
+use Rattle.rls_evaluation.specs.{CachedVerdicts.AreVerdicts, Eval.Shows, Showing.allows, Showing.verdict_on, Gathering.gathered, Holding.Evaluates, Holding.Holds}
 use Rattle.rls_evaluation.proofs.Telling.{Leads, turn, tells_then, tells_map, tells_known, drop_at}
 use Rattle.rls_evaluation.proofs.Absorbing.{noted_absorbed}
+use Rattle.rls_evaluation.proofs.CachedVerdictLemmas.{verdicts_grown}
 use Rattle.rls_guard.specs.{declared.quals.RowCheck.RowCheck, declared.reply.Decision.Decision}
 use Rattle.rls_judging.specs.{Alike.decided_by, Judging.decision_by, Judging.decisions_on, Judging.are_allowed, Judging.qualifies_if, Judging.judged_old, Judging.row_if_qualifying, Judging.with_judged, Handed.beside, Handed.allowing, Handed.behind}
 
@@ -99,6 +101,30 @@ both_told first second sees user id row before after old new verdict alike order
     (tells_map (verdict_on first.quals sees user row) (λ verdict. decided_by id verdict first) before after old new verdict told)
     (tells_map (decisions_on (second ∷ []) sees user id row) (λ rest. decided_by id verdict first ∷ rest) after after new new (decided_by id verdict second ∷ []) last)
 
+-- one verdict makes the one decision
+pub one_told : (only : RowCheck) (sees : Shows) (user : List ℕ) (id : RowId) (row : List Value) (before after : State) (old new : List Object) (verdict : Verdict)
+    → Evaluates (verdict_on only.quals sees user row) before after old new (Ok verdict)
+    → Evaluates (decisions_on (only ∷ []) sees user id row) before after old new (Ok (decided_by id verdict only ∷ []))
+one_told only sees user id row before after old new verdict told =
+    tells_then (decision_by sees user id row only) (λ decision. followed_by (known (Ok [])) (λ rest. known (Ok (decision ∷ rest)))) before after after old new new (decided_by id verdict only) (decided_by id verdict only ∷ [])
+    (tells_map (verdict_on only.quals sees user row) (λ verdict. decided_by id verdict only) before after old new verdict told)
+    (tells_map (known (Ok [])) (λ rest. decided_by id verdict only ∷ rest) after after new new [] (tells_known after after new [] refl))
+
+once : (b : Bool) → (b && true) ≡ b
+once true = refl
+once false = refl
+
+-- what it says stands behind the others
+pub one_put : (id : RowId) (verdict : Verdict) (only : RowCheck) (decisions left : List Decision) (allowed : Bool) → left ≡ decisions ++ decided_by id verdict only ∷ [] → allowed ≡ allows verdict
+    → ◌≡◌ {A = List Decision × Bool} (left, allowed) (allowing decisions (decided_by id verdict only ∷ []))
+one_put id verdict only decisions left allowed put is i = (put i, (is ∙ sym (once (allows verdict))) i)
+
+-- a list of one
+pub one_item : {A : Type 0} (xs : List A) (only : A) → 1 ≤ length xs → length xs < 2 → only ≡ get_or xs 0 only → xs ≡ only ∷ []
+one_item [] only least most is = absurd (omega (arith, least))
+one_item (x ∷ []) only least most is = λ i. sym is i ∷ []
+one_item (x ∷ y ∷ xs) only least most is = absurd (omega (arith, most))
+
 -- a list of two
 pub two_items : {A : Type 0} (xs : List A) (first second : A) → 2 ≤ length xs → length xs < 3 → first ≡ get_or xs 0 first → second ≡ get_or xs 1 second → xs ≡ first ∷ second ∷ []
 two_items [] first second least most one other = absurd (omega (arith, least))
@@ -151,3 +177,10 @@ mapped_turn whole join next put none ask f xs i x y now mid after old read_set n
 -- one element more of a list
 pub one_more : {A : Type 0} (xs next rest : List A) (x : A) → next ≡ xs ++ x ∷ [] → next ++ rest ≡ xs ++ x ∷ rest
 one_more xs next rest x added = ap (λ n. n ++ rest) added ∙ append_assoc xs (x ∷ []) rest
+
+-- what is kept of quals stays so under a call that leaves a list behind
+pub verdicts_beside : {A B : Type 0} (quals : SecurityQuals) (relations : List SecuredRelation) (user : List ℕ) (asking : Asking (A × B)) (before after : State) (old : List Object) (execution : ExecutionState) (left : A) (result : Result B AllocError) (cached now : CachedVerdicts)
+    → now.is_kept ≡ cached.is_kept → now.columns.items ≡ cached.columns.items → now.verdicts.entries ≡ cached.verdicts.entries → Evaluates asking before after old execution.read_set (beside left result) → OnOk result (Holds relations user after execution)
+    → AreVerdicts quals relations user before old cached → OnOk result (AreVerdicts quals relations user after execution.read_set now)
+verdicts_beside quals relations user asking before after old execution left (Ok b) cached now kept columns entries told holds was = verdicts_grown quals relations user asking before after old execution.read_set (left, b) cached now kept columns entries told holds.ordered was
+verdicts_beside quals relations user asking before after old execution left (Err refused) cached now kept columns entries told holds was = tt

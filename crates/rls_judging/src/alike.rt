@@ -94,7 +94,8 @@ fn put_one(
     }
 }
 
-fn put_last(
+/// The decision by the row check behind the others.
+pub(crate) fn put_last(
     decisions: &mut Vec<Decision>,
     row_check: &RowCheck,
     id: RowId,

@@ -1,18 +1,20 @@
 //! What row security says of rows, and the qualifying rows of a statement.
 
-ghost use Rattle.std.specs.Prelude.{◌≡◌, [], ◌∷◌, ◌++◌, ◌&&◌, IsTrue, OnOk};
+ghost use Rattle.std.specs.Prelude.{◌≡◌, ℕ, List, [], ◌∷◌, ◌++◌, ◌&&◌, IfOk, IsTrue, OnOk};
+ghost use Rattle.rls_value.specs.declared.object.Object.{Object};
+ghost use Rattle.rls_guard.specs.rls_catalog.specs.State.{State};
 ghost use Rattle.rls_guard.specs.rls_catalog.specs.rls_expr.specs.Terms.{maybe_term};
 ghost use Rattle.rls_evaluation.specs.rls_source.specs.{Answering.Tells as Reading, Askings.followed_by, Askings.known};
-ghost use Rattle.rls_evaluation.specs.{Holding.Holds, Holding.Evaluates, Showing.shows};
+ghost use Rattle.rls_evaluation.specs.{declared.relation.SecuredRelation.SecuredRelation as Relation, CachedVerdicts.AreVerdicts, Holding.Holds, Holding.Evaluates, Showing.shows};
 ghost use Rattle.rls_judging.specs.Handed.{allowing, behind, beside, items_now, judged_now, rows_borrowed};
-ghost use Rattle.rls_judging.specs.Alike.{AreAlike};
+ghost use Rattle.rls_judging.specs.Alike.{AreAlike, first_quals};
 ghost use Rattle.rls_judging.specs.Judging as spec;
 
-use crate::alike::{are_alike, put_both};
+use crate::alike::{are_alike, put_both, put_last};
 use crate::check_context::{CheckContext, note_all};
 use rls_evaluation::rls_source::Asker;
 use rls_evaluation::{
-    Env, ExecutionState, Looked, Scoped, SecurityQuals, Tables, VisibleRelations, allows,
+    CachedVerdicts, Env, ExecutionState, Looked, Scoped, SecurityQuals, Tables, VisibleRelations, allows,
     meets_condition, verdict_on,
 };
 use rls_guard::rls_catalog::rls_expr::Expr;
@@ -68,7 +70,7 @@ pub fn judged<'a, 'c>(
     Ok(decisions)
 }
 
-/// Judges each scanned row. The buffer of judgements serves all rows.
+/// Judges each scanned row.
 fn judge_all<'a, 'c, T: Tables>(
     alloc: Global,
     tables: &mut T,
@@ -88,17 +90,17 @@ fn judge_all<'a, 'c, T: Tables>(
         check_context.row_checks,
         alike,
     );
+    let mut verdicts = verdicts_for(alloc, check_context.row_checks, alike, scanned_rows.len())?;
     let each = check_context.row_checks.len().saturating_add(further);
     let most = scanned_rows.len().saturating_mul(each);
     let mut decisions = Vec::with_capacity(alloc, most)?;
     let mut qualifying_rows = Vec::with_capacity(alloc, scanned_rows.len())?;
-    let mut judgements = Vec::new(alloc);
     for stored in scanned_rows {
         let is = judge_old(
             alloc,
             tables,
             execution,
-            &mut judgements,
+            &mut verdicts,
             &mut decisions,
             check_context,
             alike,
@@ -107,7 +109,7 @@ fn judge_all<'a, 'c, T: Tables>(
         )?;
         push_if(&mut qualifying_rows, is, stored)?;
     }
-    drop(judgements);
+    drop(verdicts);
     Ok((decisions, qualifying_rows))
 }
 
@@ -137,6 +139,22 @@ fn has_one(quals: &SecurityQuals) -> bool {
     }
 }
 
+/// What is kept of what the quals say, where they are asked once a row.
+fn verdicts_for<'c>(
+    alloc: Global,
+    row_checks: &[RowCheck],
+    alike: bool,
+    rows: usize,
+) -> Result<CachedVerdicts<'c>, AllocError>
+    ensures { IfOk result (λ it. (relations : List Relation) (user : List ℕ) (s : State) (read_set : List Object) → AreVerdicts (first_quals row_checks.now) relations user s read_set it) }
+{
+    match row_checks {
+        [only] => CachedVerdicts::new(alloc, &only.quals, rows),
+        [first, _] if alike => CachedVerdicts::new(alloc, &first.quals, rows),
+        _ => Ok(CachedVerdicts::none(alloc)),
+    }
+}
+
 /// The row behind the others, if it qualifies.
 fn push_if<'a, 'c>(
     qualifying_rows: &mut Vec<&'a BorrowedRow<'c>>,
@@ -156,7 +174,7 @@ fn judge_old<'a, 'c, T: Tables>(
     alloc: Global,
     tables: &mut T,
     execution: &mut ExecutionState,
-    judgements: &mut Vec<Judgement<'c>>,
+    verdicts: &mut CachedVerdicts<'c>,
     decisions: &mut Vec<Decision>,
     check_context: CheckContext<'a, 'c>,
     alike: bool,
@@ -164,16 +182,18 @@ fn judge_old<'a, 'c, T: Tables>(
     stored: &'a BorrowedRow<'c>,
 ) -> Result<bool, AllocError>
     requires holds { Holds check_context.relations.now check_context.role.now (T.state tables.old) execution.old }
+    requires kept { AreVerdicts (first_quals check_context.row_checks.now) check_context.relations.now check_context.role.now (T.state tables.old) execution.old.read_set verdicts.old }
     requires alike { IsTrue alike → AreAlike check_context.row_checks.now }
     ensures tells { Evaluates (followed_by (spec.judged_old check_context.entry.row_checks.now (maybe_term condition.now) (shows check_context.entry.relations.now check_context.entry.role.now) check_context.entry.role.now stored.now) (λ judged. known (Ok (behind decisions.old.items judged)))) (T.state tables.old) (T.state tables.new) execution.old.read_set execution.new.read_set (beside decisions.new.items result) }
     ensures holds { OnOk result (Holds check_context.entry.relations.now check_context.entry.role.now (T.state tables.new) execution.new) }
+    ensures kept { OnOk result (AreVerdicts (first_quals check_context.entry.row_checks.now) check_context.entry.relations.now check_context.entry.role.now (T.state tables.new) execution.new.read_set verdicts.new) }
 {
     let row = stored.row();
     let allowed = judge(
         alloc,
         tables,
         execution,
-        judgements,
+        verdicts,
         decisions,
         check_context,
         alike,
@@ -226,7 +246,7 @@ fn judge<'a, 'c, T: Tables>(
     alloc: Global,
     tables: &mut T,
     execution: &mut ExecutionState,
-    judgements: &mut Vec<Judgement<'c>>,
+    verdicts: &mut CachedVerdicts<'c>,
     decisions: &mut Vec<Decision>,
     check_context: CheckContext<'a, 'c>,
     alike: bool,
@@ -234,16 +254,29 @@ fn judge<'a, 'c, T: Tables>(
     row: &'a Row,
 ) -> Result<bool, AllocError>
     requires holds { Holds check_context.relations.now check_context.role.now (T.state tables.old) execution.old }
+    requires kept { AreVerdicts (first_quals check_context.row_checks.now) check_context.relations.now check_context.role.now (T.state tables.old) execution.old.read_set verdicts.old }
     requires alike { IsTrue alike → AreAlike check_context.row_checks.now }
     ensures tells { Evaluates (followed_by (spec.decisions_on check_context.entry.row_checks.now (shows check_context.entry.relations.now check_context.entry.role.now) check_context.entry.role.now id row.now) (λ said. known (Ok (allowing decisions.old.items said)))) (T.state tables.old) (T.state tables.new) execution.old.read_set execution.new.read_set (beside decisions.new.items result) }
     ensures holds { OnOk result (Holds check_context.entry.relations.now check_context.entry.role.now (T.state tables.new) execution.new) }
+    ensures kept { OnOk result (AreVerdicts (first_quals check_context.entry.row_checks.now) check_context.entry.relations.now check_context.entry.role.now (T.state tables.new) execution.new.read_set verdicts.new) }
 {
     match check_context.row_checks {
+        [only] => judge_one(
+            alloc,
+            tables,
+            execution,
+            verdicts,
+            decisions,
+            check_context,
+            only,
+            id,
+            row,
+        ),
         [first, second] if alike => judge_both(
             alloc,
             tables,
             execution,
-            judgements,
+            verdicts,
             decisions,
             check_context,
             first,
@@ -255,7 +288,7 @@ fn judge<'a, 'c, T: Tables>(
             alloc,
             tables,
             execution,
-            judgements,
+            &mut verdicts.judgements,
             decisions,
             check_context,
             id,
@@ -264,12 +297,44 @@ fn judge<'a, 'c, T: Tables>(
     }
 }
 
+/// The same for one row check.
+fn judge_one<'a, 'c, T: Tables>(
+    alloc: Global,
+    tables: &mut T,
+    execution: &mut ExecutionState,
+    verdicts: &mut CachedVerdicts<'c>,
+    decisions: &mut Vec<Decision>,
+    check_context: CheckContext<'a, 'c>,
+    only: &'a RowCheck<'c>,
+    id: RowId,
+    row: &'a Row,
+) -> Result<bool, AllocError>
+    requires holds { Holds check_context.relations.now check_context.role.now (T.state tables.old) execution.old }
+    requires kept { AreVerdicts only.now.quals check_context.relations.now check_context.role.now (T.state tables.old) execution.old.read_set verdicts.old }
+    ensures tells { Evaluates (followed_by (spec.decisions_on (only.now ∷ []) (shows check_context.entry.relations.now check_context.entry.role.now) check_context.entry.role.now id row.now) (λ said. known (Ok (allowing decisions.old.items said)))) (T.state tables.old) (T.state tables.new) execution.old.read_set execution.new.read_set (beside decisions.new.items result) }
+    ensures holds { OnOk result (Holds check_context.entry.relations.now check_context.entry.role.now (T.state tables.new) execution.new) }
+    ensures kept { OnOk result (AreVerdicts only.now.quals check_context.entry.relations.now check_context.entry.role.now (T.state tables.new) execution.new.read_set verdicts.new) }
+{
+    let verdict = verdicts.verdict_on(
+        alloc,
+        tables,
+        execution,
+        check_context.relations,
+        &only.quals,
+        check_context.role,
+        row,
+    )?;
+    let allowed = allows(&verdict);
+    put_last(decisions, only, id, verdict)?;
+    Ok(allowed)
+}
+
 /// The same for two row checks that are alike: the quals are asked once.
 fn judge_both<'a, 'c, T: Tables>(
     alloc: Global,
     tables: &mut T,
     execution: &mut ExecutionState,
-    judgements: &mut Vec<Judgement<'c>>,
+    verdicts: &mut CachedVerdicts<'c>,
     decisions: &mut Vec<Decision>,
     check_context: CheckContext<'a, 'c>,
     first: &'a RowCheck<'c>,
@@ -278,22 +343,18 @@ fn judge_both<'a, 'c, T: Tables>(
     row: &'a Row,
 ) -> Result<bool, AllocError>
     requires holds { Holds check_context.relations.now check_context.role.now (T.state tables.old) execution.old }
+    requires kept { AreVerdicts first.now.quals check_context.relations.now check_context.role.now (T.state tables.old) execution.old.read_set verdicts.old }
     requires alike { second.now.quals ≡ first.now.quals }
     ensures tells { Evaluates (followed_by (spec.decisions_on (first.now ∷ second.now ∷ []) (shows check_context.entry.relations.now check_context.entry.role.now) check_context.entry.role.now id row.now) (λ said. known (Ok (allowing decisions.old.items said)))) (T.state tables.old) (T.state tables.new) execution.old.read_set execution.new.read_set (beside decisions.new.items result) }
     ensures holds { OnOk result (Holds check_context.entry.relations.now check_context.entry.role.now (T.state tables.new) execution.new) }
+    ensures kept { OnOk result (AreVerdicts first.now.quals check_context.entry.relations.now check_context.entry.role.now (T.state tables.new) execution.new.read_set verdicts.new) }
 {
-    let visible = VisibleRelations {
-        relations: check_context.relations,
-        from: 0,
-    };
-    let quals = &first.quals;
-    let verdict = verdict_on(
+    let verdict = verdicts.verdict_on(
         alloc,
         tables,
         execution,
-        visible,
-        judgements,
-        quals,
+        check_context.relations,
+        &first.quals,
         check_context.role,
         row,
     )?;
@@ -350,7 +411,7 @@ fn both(one: bool, other: bool) -> bool
     one && other
 }
 
-/// Judges each new row. The buffer of judgements serves all rows.
+/// Judges each new row.
 fn judge_new<'a, 'c, T: Tables>(
     alloc: Global,
     tables: &mut T,
@@ -363,15 +424,15 @@ fn judge_new<'a, 'c, T: Tables>(
 {
     let alike = !rows.is_empty() && are_alike(check_context.row_checks);
     execution.next = first_place(execution.next, rows.len(), check_context.row_checks, alike);
+    let mut verdicts = verdicts_for(alloc, check_context.row_checks, alike, rows.len())?;
     let most = rows.len().saturating_mul(check_context.row_checks.len());
     let mut decisions = Vec::with_capacity(alloc, most)?;
-    let mut judgements = Vec::new(alloc);
     for stored in rows {
         judge(
             alloc,
             tables,
             execution,
-            &mut judgements,
+            &mut verdicts,
             &mut decisions,
             check_context,
             alike,
@@ -379,6 +440,6 @@ fn judge_new<'a, 'c, T: Tables>(
             &stored.row,
         )?;
     }
-    drop(judgements);
+    drop(verdicts);
     Ok(decisions)
 }

@@ -23,5 +23,6 @@ loop-stored-preserved g c =
           c.loop-stored-test.true c.stored-item.is
           (λ rest. found_more c.loop-stored.decisions.items c.judge_old.new.decisions.items (rows_borrowed c.loop-stored.qualifying_rows) (rows_borrowed c.push_if.new.qualifying_rows) c.stored-item.result parts.0 c.in_ok-is.is' rest parts.1.1 c.in_ok-push_if.ensures)
           c.loop-stored.invariant.stands c.loop-stored.invariant.leads parts.1.0;
+      kept = c.in_ok-is.ensures.kept;
       holds = c.in_ok-is.ensures.holds;
     }

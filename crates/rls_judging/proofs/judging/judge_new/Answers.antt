@@ -21,5 +21,6 @@ loop-stored-preserved g c =
           c.loop-stored-test.true c.stored-item.is
           (λ rest. said_more c.loop-stored.decisions.items c.judge.new.decisions.items parts.0 c.in_ok-judge.field-0 rest parts.1.1)
           c.loop-stored.invariant.stands c.loop-stored.invariant.leads parts.1.0;
+      kept = c.in_ok-judge.ensures.kept;
       holds = c.in_ok-judge.ensures.holds;
     }
