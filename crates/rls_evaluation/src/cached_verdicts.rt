@@ -94,15 +94,11 @@ impl<'c> CachedVerdicts<'c> {
         ensures kept { OnOk result (AreVerdicts quals.now relations.now user.now (S.state source.new) execution.new.read_set self.new) }
     {
         if !self.looks() {
-            return self.asked(
-                alloc, source, execution, relations, quals, user, row, false,
-            );
+            return self.asked(alloc, source, execution, relations, quals, user, row, false);
         }
         match self.found(alloc, user, row)? {
             Some(verdict) => Ok(verdict),
-            None => self.asked(
-                alloc, source, execution, relations, quals, user, row, true,
-            ),
+            None => self.asked(alloc, source, execution, relations, quals, user, row, true),
         }
     }
 

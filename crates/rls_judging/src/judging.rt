@@ -14,8 +14,8 @@ use crate::alike::{are_alike, put_both, put_last};
 use crate::check_context::{CheckContext, note_all};
 use rls_evaluation::rls_source::Asker;
 use rls_evaluation::{
-    CachedVerdicts, Env, ExecutionState, Looked, Scoped, SecurityQuals, Tables, VisibleRelations, allows,
-    meets_condition, verdict_on,
+    CachedVerdicts, Env, ExecutionState, Looked, Scoped, SecurityQuals, Tables, VisibleRelations,
+    allows, meets_condition, verdict_on,
 };
 use rls_guard::rls_catalog::rls_expr::Expr;
 use rls_guard::rls_catalog::{BorrowedRow, Stored};
