@@ -1,8 +1,8 @@
-use Rattle.std.proofs.Common.{◌∷◌, ◌++◌, [], ap, sym, ◌∙◌}
+use Rattle.std.proofs.Common.{◌∷◌, []}
 use Rattle.rls_evaluation.specs.Showing.{shows}
 use Rattle.rls_evaluation.proofs.Telling.{tells_as}
 use Rattle.rls_judging.specs.Alike.{decided_by}
-use Rattle.rls_judging.specs.Judging.{are_allowed, decisions_on}
+use Rattle.rls_judging.specs.Judging.{decisions_on}
 use Rattle.rls_judging.specs.Handed.{allowing}
 use Rattle.rls_judging.proofs.RowLemmas.{both_put, both_told}
 use Rattle.rls_judging.proofs.judging.judge_both.Goals as goal

@@ -3,7 +3,7 @@ use Rattle.std.specs.Prelude.{List, Ok}
 use Rattle.rls_evaluation.specs.rls_source.specs.Askings.{followed_by, known}
 use Rattle.rls_evaluation.specs.Showing.{shows, verdict_on}
 use Rattle.rls_evaluation.proofs.LoopLemmas.{rows_turn}
-use Rattle.rls_evaluation.proofs.Telling.{tells_as, leads_map, leads_whole}
+use Rattle.rls_evaluation.proofs.Telling.{tells_as}
 use Rattle.rls_guard.specs.declared.reply.Decision.{Decision}
 use Rattle.rls_judging.specs.Judging.{decisions_on, decision_by, with_decision, are_allowed}
 use Rattle.rls_judging.specs.Handed.{allowing}

@@ -1,12 +1,11 @@
 use Rattle.std.proofs.Common.{◌≡◌, ◌++◌, ◌&&◌, drop}
 use Rattle.rls_evaluation.specs.rls_source.specs.Askings.{followed_by, known}
 use Rattle.std.specs.Prelude.{Ok, List}
-use Rattle.rls_evaluation.specs.Gathering.{gathered}
 use Rattle.rls_evaluation.specs.Holding.{Holds}
 use Rattle.rls_evaluation.specs.Showing.{shows}
 use Rattle.rls_evaluation.proofs.Telling.{Leads}
 use Rattle.rls_guard.specs.declared.reply.Decision.{Decision}
-use Rattle.rls_judging.specs.Judging.{decisions_on, decision_by, with_decision, are_allowed}
+use Rattle.rls_judging.specs.Judging.{decisions_on, are_allowed}
 use Rattle.rls_judging.specs.Handed.{allowing}
 use Rattle.rls_judging.proofs.judging.judge_each.Given as goal
 

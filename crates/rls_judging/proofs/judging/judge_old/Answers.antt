@@ -1,4 +1,4 @@
-use Rattle.std.proofs.Common.{◌≡◌, refl, subst}
+use Rattle.std.proofs.Common.{refl, subst}
 use Rattle.std.specs.Prelude.{Ok}
 use Rattle.rls_guard.specs.rls_catalog.specs.rls_expr.specs.Terms.{maybe_term}
 use Rattle.rls_evaluation.specs.rls_source.specs.Askings.{followed_by, known}

@@ -5,7 +5,6 @@ use Rattle.rls_value.specs.declared.value.Value.{Value}
 use Rattle.rls_evaluation.specs.Eval.{value_of}
 use Rattle.rls_evaluation.specs.Scoping.{env_of, datum_value}
 use Rattle.rls_evaluation.specs.Showing.{shows}
-use Rattle.rls_evaluation.proofs.Telling.{leads_map, leads_whole}
 use Rattle.rls_judging.specs.Valuing.{values_on, with_value}
 use Rattle.rls_judging.specs.Handed.{datum_values}
 use Rattle.rls_judging.proofs.RowLemmas.{mapped_turn}

@@ -2,7 +2,7 @@ use Rattle.std.proofs.Common.{◌∙◌, ◌++◌, ◌∷◌, [], map}
 use Rattle.std.specs.Prelude.{List, Ok}
 use Rattle.rls_value.specs.declared.value.Value.{Value}
 use Rattle.rls_evaluation.specs.Environments.{over}
-use Rattle.rls_evaluation.specs.Scoping.{env_of, rows_in}
+use Rattle.rls_evaluation.specs.Scoping.{rows_in}
 use Rattle.rls_evaluation.specs.Showing.{shows}
 use Rattle.rls_judging.specs.Valuing.{values_on, values_set, with_row_values}
 use Rattle.rls_judging.specs.Handed.{datum_values}
